@@ -1,0 +1,4 @@
+pub mod Arms
+pub mod Sets
+pub mod Rows
+pub mod Tables

@@ -1,0 +1,13 @@
+-- `cross_trainer_row` meets its contract: past the last row by the default, within the table by computing. Assumes nothing.
+use borrow.Author.Needs.{needs}
+use mathlib.Core.Path.{refl, sym}
+use lib.ListN.{List·getD-eq-default}
+use Rattle.record.specs.Layout.{cross-trainer, no-row}
+use Rattle.record.proofs.layout.cross_trainer_row.Statement.{statement}
+use Rattle.record.proofs.layout.cross_trainer_row.Tie as tie
+
+pub cross-trainer-row-spec : {M : Type 1} → statement M
+unfolding cross-trainer
+cross-trainer-row-spec =
+    tie.close
+    (tie.spec (λ c. sym (List·getD-eq-default cross-trainer no-row (c .if1 .taken))) (λ c. search needs) (λ c. search needs) (λ c. refl))

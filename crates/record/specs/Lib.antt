@@ -1,0 +1,4 @@
+pub mod Layout
+pub mod Groups
+pub mod Octets
+pub mod Record

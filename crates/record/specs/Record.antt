@@ -1,0 +1,80 @@
+-- Records: "A record is a kind, a set of optional groups as the bits above, a direction and the field values."
+use Prim.Native.Nat.{ℕ, _+_, _%_, _^_}
+use mathlib.Core.Bool.{Bool, true, cond, _&&_}
+use mathlib.Core.List.{List, [], _∷_}
+use lib.Dec.{eqb, leb, ltb}
+use lib.ListN.{getD, set}
+use Rattle.record.specs.declared.layout.Row.{Row}
+use Rattle.record.specs.declared.record.Record.{Record}
+use Rattle.record.specs.Layout.{layout, octets-of}
+use Rattle.record.specs.Groups.{named, listed, known, within}
+use Rattle.record.specs.Octets.{signed, unsigned}
+
+-- a record's wire numbers, one for each field, in the fields' order
+abbrev pub wire : Record → List ℕ
+wire r =
+    r .speed ∷ r .climb .floors ∷ r .climb .steps ∷ r .stroke .rate ∷ r .stroke .count ∷ r .«average_speed» ∷ r .distance ∷
+    unsigned (r .slope .inclination .0) ∷ unsigned (r .slope .«ramp_angle» .0) ∷ r .gain .positive ∷ r .gain .negative ∷
+    r .pace ∷ r .«average_pace» ∷ r .energy .total ∷ r .energy .«per_hour» ∷ r .energy .«per_minute» ∷
+    r .«heart_rate» ∷ r .«metabolic_equivalent» ∷ r .elapsed ∷ r .remaining ∷
+    unsigned (r .force .belt) ∷ unsigned (r .force .«power_output») ∷ r .«step_rates» .rate ∷ r .«step_rates» .average ∷
+    r .«stride_count» ∷ unsigned (r .resistance) ∷ unsigned (r .power) ∷ unsigned (r .«average_power») ∷
+    r .«average_stroke_rate» ∷ r .cadence ∷ r .«average_cadence» ∷ []
+
+-- the record with these wire numbers, each cut to its field's type
+abbrev pub of-wire : ℕ → ℕ → ℕ → List ℕ → Record
+of-wire k g d v =
+    let n : ℕ → ℕ = λ field. getD v field 0 % 2 ^ 16 in
+    let b : ℕ → ℕ = λ field. getD v field 0 % 2 ^ 8 in
+    record {
+      kind = k;
+      groups = g;
+      direction = d;
+      speed = n 0;
+      climb = record { floors = n 1; steps = n 2 };
+      stroke = record { rate = b 3; count = n 4 };
+      «average_speed» = n 5;
+      distance = getD v 6 0;
+      slope = record { inclination = record { 0 = signed (n 7) }; «ramp_angle» = record { 0 = signed (n 8) } };
+      gain = record { positive = n 9; negative = n 10 };
+      pace = n 11;
+      «average_pace» = n 12;
+      energy = record { total = n 13; «per_hour» = n 14; «per_minute» = b 15 };
+      «heart_rate» = b 16;
+      «metabolic_equivalent» = b 17;
+      elapsed = n 18;
+      remaining = n 19;
+      force = record { belt = signed (n 20); «power_output» = signed (n 21) };
+      «step_rates» = record { rate = n 22; average = n 23 };
+      «stride_count» = n 24;
+      resistance = signed (n 25);
+      power = signed (n 26);
+      «average_power» = signed (n 27);
+      «average_stroke_rate» = b 28;
+      cadence = n 29;
+      «average_cadence» = n 30;
+    }
+
+-- "each value fits its width"
+unfoldable pub all-fit : List Row → List ℕ → Bool
+all-fit [] v = true
+all-fit (r ∷ rows) v = ltb (getD v (r .1) 0) (256 ^ octets-of (r .2)) && all-fit rows v
+
+-- the numbers of the fields that stand in no row: those of the rows are set aside
+unfoldable pub others : List Row → List ℕ → List ℕ
+others [] v = v
+others (r ∷ rows) v = others rows (set v (r .1) 0)
+
+unfoldable pub all-zero : List ℕ → Bool
+all-zero [] = true
+all-zero (x ∷ v) = eqb x 0 && all-zero v
+
+-- "It is well formed when the set has only bits listed for its kind, each value fits its width, fields of absent groups are 0, and
+-- direction is 0 unless kind 2."
+unfoldable pub formed : ℕ → ℕ → ℕ → List ℕ → Bool
+formed kind groups direction v =
+    let rows : List Row = named (1 + groups) (layout kind) in
+    known kind && within groups (listed kind) && leb direction (cond (eqb kind 2) 1 0) && all-fit rows v && all-zero (others rows v)
+
+abbrev pub well-formed : Record → Bool
+well-formed r = formed (r .kind) (r .groups) (r .direction) (wire r)

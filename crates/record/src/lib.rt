@@ -1,0 +1,4 @@
+// The record layer.
+pub mod groups;
+pub mod layout;
+pub mod record;
