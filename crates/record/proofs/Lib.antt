@@ -1,4 +1,11 @@
 pub mod Arms
+pub mod OctetLaws
+pub mod RefusalLaws
+pub mod FeatureLaws
 pub mod Sets
 pub mod Rows
 pub mod Tables
+pub mod Reading
+pub mod Writing
+pub mod Runs
+pub mod Steps

@@ -5,10 +5,11 @@ use mathlib.Core.Bool.{Bool, true, false, cond, _&&_}
 use mathlib.Core.List.{List, [], _∷_}
 use native.Mathlib.Omega.{arith}
 use lib.Dec.{ltb, eqb}
+use lib.Pow.{pow-pos}
 use Rattle.record.specs.declared.layout.Row.{Row}
 use Rattle.record.specs.Layout.{octets-of}
-use Rattle.record.specs.Groups.{has, named, size}
-use Rattle.record.proofs.Sets.{passed, failed, tested, eqb-eq, eqb-ne, and-l, and-r, leb-le, has-empty, has-power, has-own, has-low, has-high, same-bit}
+use Rattle.record.specs.Groups.{has, named, size, groups-of}
+use Rattle.record.proofs.Sets.{passed, failed, tested, eqb-eq, eqb-ne, and-l, and-r, leb-le, has-empty, has-power, has-own, has-low, has-high, same-bit, add-bit}
 
 -- the bits of all rows are below a number
 abbrev pub below : ℕ → List Row → Bool
@@ -95,3 +96,16 @@ named-low [] set n e = refl
 named-low (r ∷ rows) set n e =
     let l : r .0 < n = leb-le (suc (r .0)) n (and-l (ltb (r .0) n) (below n rows) e) in
     rw (has-low set n (r .0) l, named-low rows set n (and-r (ltb (r .0) n) (below n rows) e))
+
+-- a set gains a bit below a number
+gained : (b : Bool) (set i n : ℕ) → b ≡ has set i → set < 2 ^ n → i < n → cond b set (set + 2 ^ i) < 2 ^ n
+gained true set i n e h l = h
+gained false set i n e h l = add-bit set i n (sym e) h l
+
+-- the set of the groups of rows whose bits are below a number
+pub groups-below : (rows : List Row) (n : ℕ) → below n rows ≡ true → groups-of rows < 2 ^ n
+unfolding groups-of
+groups-below [] n e = pow-pos n
+groups-below (r ∷ rows) n e =
+    gained (has (groups-of rows) (r .0)) (groups-of rows) (r .0) n refl (groups-below rows n (and-r (ltb (r .0) n) (below n rows) e))
+    (leb-le (suc (r .0)) n (and-l (ltb (r .0) n) (below n rows) e))

@@ -3,11 +3,11 @@ use Prim.Native.Nat.{ℕ, zero, suc, _+_, _-_, _*_, _/_, _%_, _^_, _<_, _≤_, m
 use mathlib.Core.Path.{_≡_, refl, sym, ap, _∙_}
 use mathlib.Core.Bool.{Bool, true, false, _&&_, _||_, true≢false}
 use native.Mathlib.Omega.{arith}
-use native.Mathlib.Nat.{div-eq-of-lt, div-self, le-trans, mul-mod-left, mod-lt, mod-one, zero-lt-suc, pow-suc, div-one, zero-div, div-div-eq-div-mul, mul-comm}
+use native.Mathlib.Nat.{div-eq-of-lt, div-self, le-trans, mul-mod-left, suc-mul, add-comm, mod-lt, mod-one, zero-lt-suc, pow-suc, div-one, zero-div, div-div-eq-div-mul, mul-comm}
 use lib.Dec.{T, eqb, leb, ltb, eqb→eq, eqb-refl, leb→le, le→leb, nleb→lt}
 use lib.Bits.{bitAnd, bitOr, and-step, or-step, and-shr, or-shr, or-shifted, and-zero-l}
-use lib.Pow.{pow-pos, pow-mono, pow-lt, pow-add, split, field, mod-mod-pow}
-use lib.Arith.{bin-ind, mod-mul}
+use lib.Pow.{pow-pos, pow-mono, pow-lt, pow-add, split, shr-lt, field, mod-mod-pow, mod-pow-add}
+use lib.Arith.{bin-ind, mod-mul, digits-lt}
 use Rattle.record.specs.Groups.{has}
 
 -- ---- tests
@@ -259,3 +259,34 @@ same-bit a b i n = elim (tested (leb (suc b) i)) [
       let k : i < b = omega arith in
       has-low a (suc b) i l ∙ sym (has-low a b i k)
 ]
+
+-- a set that lacks a bit below a number gains it and stays below: the bits from it on are even
+pub add-bit : (a i n : ℕ) → has a i ≡ false → a < 2 ^ n → i < n → a + 2 ^ i < 2 ^ n
+unfolding has
+add-bit a i n e h l =
+    let k : n ≡ suc (n - suc i) + i = omega arith in
+    let p : 2 ^ n ≡ 2 ^ suc (n - suc i) * 2 ^ i = ap (λ (x : ℕ). 2 ^ x) k ∙ pow-add 2 (suc (n - suc i)) i in
+    let q : a / 2 ^ i < 2 ^ suc (n - suc i) = shr-lt (suc (n - suc i)) i (rw (← k) h) in
+    let d : 2 ^ suc (n - suc i) ≡ 2 ^ (n - suc i) * 2 = pow-suc 2 (n - suc i) in
+    let z : a / 2 ^ i % 2 ≡ 1 → ⊥ = eqb-ne (a / 2 ^ i % 2) 1 e in
+    let r : suc (a / 2 ^ i) < 2 ^ suc (n - suc i) = omega arith in
+    let m : suc (a / 2 ^ i) * 2 ^ i + a % 2 ^ i < 2 ^ suc (n - suc i) * 2 ^ i = digits-lt r (mod-lt a (pow-pos i)) in
+    let s : a / 2 ^ i * 2 ^ i + a % 2 ^ i ≡ a = split a i in
+    let t : suc (a / 2 ^ i) * 2 ^ i ≡ a / 2 ^ i * 2 ^ i + 2 ^ i = suc-mul (a / 2 ^ i) (2 ^ i) in
+    omega arith
+
+-- ---- a set below a bit, and with the bit
+
+low-digit : (a b : ℕ) → a % 2 ^ (b + 1) ≡ a / 2 ^ b % 2 * 2 ^ b + a % 2 ^ b
+low-digit a b = ap (λ (x : ℕ). a % 2 ^ x) (add-comm b 1) ∙ mod-pow-add a 1 b
+
+digit-of : (x : ℕ) → (eqb (x % 2) 1 ≡ true → x % 2 ≡ 1) × (eqb (x % 2) 1 ≡ false → x % 2 ≡ 0)
+digit-of x = (eqb-eq (x % 2) 1, λ e. let n : x % 2 ≡ 1 → ⊥ = eqb-ne (x % 2) 1 e in omega arith)
+
+pub mod-next : (a b : ℕ) → has a b ≡ true → a % 2 ^ (b + 1) ≡ a % 2 ^ b + 2 ^ b
+unfolding has
+mod-next a b e = low-digit a b ∙ rw (digit-of (a / 2 ^ b) .0 e) (omega arith)
+
+pub mod-stays : (a b : ℕ) → has a b ≡ false → a % 2 ^ (b + 1) ≡ a % 2 ^ b
+unfolding has
+mod-stays a b e = low-digit a b ∙ rw (digit-of (a / 2 ^ b) .1 e) (omega arith)

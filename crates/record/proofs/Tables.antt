@@ -4,15 +4,17 @@ use mathlib.Core.Path.{_≡_, refl, sym, ap, _∙_}
 use mathlib.Core.Bool.{Bool, true, false, cond, _&&_}
 use mathlib.Core.List.{List, [], _∷_}
 use native.Mathlib.Omega.{arith}
-use native.Mathlib.Nat.{le-trans, mod-one}
+use native.Mathlib.Nat.{le-trans, mod-one, zero-add, suc-add}
 use native.Mathlib.Numerals.{add-one}
-use lib.Dec.{eqb, leb}
+use lib.Dec.{eqb, leb, ltb}
 use lib.ListN.{length, getD}
 use Rattle.record.specs.declared.layout.Row.{Row}
-use Rattle.record.specs.Layout.{octets-of, tables, layout, treadmill, cross-trainer, step-climber, stair-climber, rower, indoor-bike}
+use Rattle.record.specs.declared.layout.Width.{Width}
+use Rattle.record.specs.declared.layout.Width.the-variants.{U8, U16, U24, S16}
+use Rattle.record.specs.Layout.{octets-of, no-row, tables, layout, treadmill, cross-trainer, step-climber, stair-climber, rower, indoor-bike}
 use Rattle.record.specs.Groups.{has, named, size, groups-of, listed, flags-octets, set-length}
 use Rattle.record.proofs.Sets.{passed, failed, tested, eqb-eq, eqb-ne, leb-le, and-l, and-r}
-use Rattle.record.proofs.Rows.{below, named-low, named-empty, size-named, size-next}
+use Rattle.record.proofs.Rows.{below, groups-below, named-low, named-empty, size-named, size-next}
 
 -- a test holds of all the elements of a list
 abbrev pub all : {A : Type 0} → (A → Bool) → List A → Bool
@@ -32,20 +34,73 @@ all-in p (x ∷ l) d e (suc i) h = all-in p l d (and-r (p x) (all p l) e) i (ome
 
 -- ---- of every number, kind or not
 
--- the bits are below 15, and all rows together take 64 octets at most
-abbrev small : List Row → Bool
-small rows = below 15 rows && leb (size rows) 64
+-- a row's field is one of the 31
+field-known : Row → Bool
+field-known r = ltb (r .1) 31
 
-layout-small : (kind : ℕ) → small (layout kind) ≡ true
-unfolding layout tables treadmill cross-trainer step-climber stair-climber rower indoor-bike size
+-- the bits are below 15, all rows together take 64 octets at most, there are twenty at most, the fields are below 31
+abbrev small : List Row → Bool
+small rows = (below 15 rows && leb (size rows) 64) && (leb (length rows) 20 && all field-known rows)
+
+abbrev Small : List Row → Type 0
+Small rows = small rows ≡ true
+
+layout-small : (kind : ℕ) → Small (layout kind)
+unfolding layout tables treadmill cross-trainer step-climber stair-climber rower indoor-bike size field-known
 layout-small kind = all-at small tables [] refl refl kind
 
-pub bits-below : (kind : ℕ) → below 15 (layout kind) ≡ true
-bits-below kind = and-l (below 15 (layout kind)) (leb (size (layout kind)) 64) (layout-small kind)
+module _ (kind : ℕ) where
+  abbrev bits-and-octets : Bool
+  bits-and-octets = below 15 (layout kind) && leb (size (layout kind)) 64
 
-pub octets-most : (kind set : ℕ) → set-length kind set ≤ 64
-octets-most kind set =
-    le-trans (size-named (layout kind) set) (leb-le (size (layout kind)) 64 (and-r (below 15 (layout kind)) (leb (size (layout kind)) 64) (layout-small kind)))
+  abbrev count-and-fields : Bool
+  count-and-fields = leb (length (layout kind)) 20 && all field-known (layout kind)
+
+  pub bits-below : below 15 (layout kind) ≡ true
+  bits-below = and-l (below 15 (layout kind)) (leb (size (layout kind)) 64) (and-l bits-and-octets count-and-fields (layout-small kind))
+
+  pub rows-most : length (layout kind) ≤ 20
+  rows-most =
+      leb-le (length (layout kind)) 20
+      (and-l (leb (length (layout kind)) 20) (all field-known (layout kind)) (and-r bits-and-octets count-and-fields (layout-small kind)))
+
+  pub field-below : (i : ℕ) → getD (layout kind) i no-row .1 < 31
+  unfolding field-known
+  field-below i =
+      leb-le (suc (getD (layout kind) i no-row .1)) 31
+      (all-at field-known (layout kind) no-row
+      (and-r (leb (length (layout kind)) 20) (all field-known (layout kind)) (and-r bits-and-octets count-and-fields (layout-small kind))) refl i)
+
+  pub octets-most : (set : ℕ) → set-length kind set ≤ 64
+  octets-most set =
+      le-trans (size-named (layout kind) set)
+      (leb-le (size (layout kind)) 64 (and-r (below 15 (layout kind)) (leb (size (layout kind)) 64) (and-l bits-and-octets count-and-fields (layout-small kind))))
+
+  pub listed-below : listed kind < 2 ^ 15
+  unfolding listed
+  listed-below =
+      let h : groups-of (layout kind) < 2 ^ 15 = groups-below (layout kind) 15 bits-below in omega arith
+
+-- "Flags are 2 octets, for cross trainer 3."
+flags-at-least : (b : Bool) → 2 ≤ cond b 3 2
+flags-at-least true = omega arith
+flags-at-least false = omega arith
+
+flags-at-most : (b : Bool) → cond b 3 2 ≤ 3
+flags-at-most true = omega arith
+flags-at-most false = omega arith
+
+pub flags-least : (kind : ℕ) → 2 ≤ flags-octets kind
+flags-least kind = flags-at-least (eqb kind 2)
+
+pub flags-most : (kind : ℕ) → flags-octets kind ≤ 3
+flags-most kind = flags-at-most (eqb kind 2)
+
+pub width-most : (w : Width) → octets-of w ≤ 3
+width-most U8 = omega arith
+width-most U16 = omega arith
+width-most U24 = omega arith
+width-most S16 = omega arith
 
 -- the groups of a set are its groups below bit 15
 pub all-named : (kind set : ℕ) → named (set % 2 ^ 15) (layout kind) ≡ named set (layout kind)
@@ -63,3 +118,16 @@ module _ (kind set bit : ℕ) where
 pub length-none : (kind set : ℕ) → set-length kind (set % 2 ^ 0) ≡ 0
 unfolding size
 length-none kind set = rw (mod-one set, named-empty (layout kind))
+
+-- more bits take no less
+added : (h : Bool) (a x y : ℕ) → y ≡ a + cond h x 0 → a ≤ y
+added true a x y e = omega arith
+added false a x y e = omega arith
+
+pub length-mono : (kind set a d : ℕ) → set-length kind (set % 2 ^ a) ≤ set-length kind (set % 2 ^ (d + a))
+length-mono kind set a zero = rw (zero-add a) (omega arith)
+length-mono kind set a (suc d) =
+    let h : set-length kind (set % 2 ^ (d + a)) ≤ set-length kind (set % 2 ^ suc (d + a)) =
+    added (has set (d + a)) (set-length kind (set % 2 ^ (d + a))) (set-length kind (2 ^ (d + a))) (set-length kind (set % 2 ^ suc (d + a)))
+    (size-next (layout kind) set (d + a)) in
+    rw (suc-add d a) (le-trans (length-mono kind set a d) h)

@@ -1,4 +1,9 @@
 // The record layer.
+pub mod feature;
 pub mod groups;
 pub mod layout;
+pub mod notification;
+pub mod octets;
 pub mod record;
+pub mod refusal;
+pub mod split;

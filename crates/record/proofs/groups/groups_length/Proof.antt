@@ -32,9 +32,9 @@ loop-again c =
     let s = l .before .args in (
       omega arith,
       ⊎-elim
-      (λ w. w .2 ∙ ap₂ _+_ (l .loop .inv .1) (w .1 .ensures) ∙ sym (length-next (s .kind) (s .set) (l .loop .bit) (sym (c .before .has .ensures) ∙ w .0 .taken)))
-      (λ w. w .1 ∙ l .loop .inv .1 ∙ sym (length-stays (s .kind) (s .set) (l .loop .bit) (sym (c .before .has .ensures) ∙ w .0 .left)))
-      (c .if1 .came),
+          (λ w. w .2 ∙ ap₂ _+_ (l .loop .inv .1) (w .1 .ensures) ∙ sym (length-next (s .kind) (s .set) (l .loop .bit) (sym (c .before .has .ensures) ∙ w .0 .taken)))
+          (λ w. w .1 ∙ l .loop .inv .1 ∙ sym (length-stays (s .kind) (s .set) (l .loop .bit) (sym (c .before .has .ensures) ∙ w .0 .left)))
+          (c .if1 .came),
     )
 
 returns : tie.Need-returns Inv-loop μ-loop

@@ -1,0 +1,83 @@
+-- Splitting a record into parts, each a notification.
+use Prim.Native.Nat.{ℕ, zero, suc, _+_, _*_, _-_, _%_, _^_}
+use mathlib.Core.Bool.{Bool, cond, _&&_}
+use mathlib.Core.List.{List, [], _∷_, _++_}
+use lib.Dec.{leb, ltb}
+use lib.ListN.{length, getD}
+use Rattle.record.specs.declared.layout.Row.{Row}
+use Rattle.record.specs.declared.record.Record.{Record}
+use Rattle.record.specs.declared.split.Extent.{Extent}
+use Rattle.record.specs.declared.split.SplitAnswer.{SplitAnswer}
+use Rattle.record.specs.declared.split.SplitAnswer.the-variants.{Part, Refused}
+use Rattle.record.specs.Layout.{layout, octets-of}
+use Rattle.record.specs.Groups.{named, known, flags-octets, set-length, turned}
+use Rattle.record.specs.Octets.{spelled, over}
+use Rattle.record.specs.Record.{wire, well-formed}
+use Rattle.record.specs.Answer.{Answer, refused, given, provided, after}
+use Rattle.record.specs.Refusal.{number-of}
+
+-- what each case of the answer means: this document's number, or the part's length and the number of parts
+abbrev pub meant : SplitAnswer → Answer Extent
+meant (Part e) = given e
+meant (Refused x) = refused (number-of x)
+
+-- whether the groups of a set fit in room octets
+abbrev pub fits : ℕ → ℕ → ℕ → Bool
+fits kind set room = leb (set-length kind set) room
+
+-- the highest bit, at most n, below which the groups of a set fit in room octets
+unfoldable pub longest : ℕ → ℕ → ℕ → ℕ → ℕ
+longest kind set room zero = 0
+longest kind set room (suc n) =
+    let lower : ℕ = longest kind set room n in
+    cond (fits kind (set % 2 ^ suc n) room) (suc n) lower
+
+-- "the longest run of the lowest remaining groups that fits"
+abbrev pub run : ℕ → ℕ → ℕ → ℕ
+run kind room set = set % 2 ^ longest kind set room 15
+
+-- the sets of the parts, at most n of them: "While flags, main group and all remaining optional groups don't fit in one payload, a part with
+-- More Data 1 is sent holding the longest run of the lowest remaining groups that fits. Then one part with More Data 0 holds the main
+-- group and what remains."
+unfoldable pub cut : ℕ → ℕ → ℕ → ℕ → List ℕ
+cut kind room set zero = []
+cut kind room set (suc n) =
+    let more : List ℕ = run kind room set ∷ cut kind room (set - run kind room set) n in
+    cond (fits kind (1 + set) room) ((1 + set) ∷ []) more
+
+-- the sets of the parts of a record at a payload: no record has more than sixteen
+abbrev pub sets-of : ℕ → ℕ → ℕ → List ℕ
+sets-of kind groups payload = cut kind (payload - flags-octets kind) groups 16
+
+-- the octets of rows, with the numbers of a record
+unfoldable pub written : List Row → List ℕ → List ℕ
+written [] v = []
+written (r ∷ rows) v = spelled (octets-of (r .2)) (getD v (r .1) 0) ++ written rows v
+
+-- a part's flags: its groups, More Data where the main one is absent, and "Direction is set in every part"
+abbrev pub flags : ℕ → ℕ → ℕ
+flags set direction = turned set + direction * 2 ^ 15
+
+-- the octets of a part with a set of groups, bit 0 for the main one
+abbrev pub octets : ℕ → ℕ → ℕ → List ℕ → List ℕ
+octets kind set direction v = spelled (flags-octets kind) (flags set direction) ++ written (named set (layout kind)) v
+
+-- the octets of part i of a record at a payload
+abbrev pub part-octets : Record → ℕ → ℕ → List ℕ
+part-octets r payload i = octets (r .kind) (getD (sets-of (r .kind) (r .groups) payload) i 0) (r .direction) (wire r)
+
+-- "The answer for part i, counted from 0, is its octets, its length and the number of parts": here the latter two, or the first of the
+-- refusals 11, 12, 13, 15 and 14 that applies
+unfoldable pub split-of : Record → ℕ → ℕ → ℕ → Answer Extent
+split-of r payload i lent =
+    let parts : ℕ = length (sets-of (r .kind) (r .groups) payload) in
+    let size : ℕ = length (part-octets r payload i) in
+    provided (known (r .kind)) 11
+    (provided (leb 20 payload && leb payload 512) 12
+    (provided (well-formed r) 13
+    (provided (ltb i parts) 15
+    (provided (leb size lent) 14 (given (record { length = size; parts = parts }))))))
+
+-- the lent octets afterwards: the part's, and past its length those that were lent
+abbrev pub lent-after : Record → ℕ → ℕ → List ℕ → List ℕ
+lent-after r payload i out = after (split-of r payload i (length out)) (over out (part-octets r payload i)) out
