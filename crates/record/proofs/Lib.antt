@@ -5,7 +5,12 @@ pub mod FeatureLaws
 pub mod Sets
 pub mod Rows
 pub mod Tables
+pub mod Turns
+pub mod Records
 pub mod Reading
 pub mod Writing
 pub mod Runs
 pub mod Steps
+pub mod Cuts
+pub mod Kept
+pub mod Parts

@@ -131,3 +131,42 @@ length-mono kind set a (suc d) =
     added (has set (d + a)) (set-length kind (set % 2 ^ (d + a))) (set-length kind (2 ^ (d + a))) (set-length kind (set % 2 ^ suc (d + a)))
     (size-next (layout kind) set (d + a)) in
     rw (suc-add d a) (le-trans (length-mono kind set a d) h)
+
+-- ---- of the six kinds
+
+-- each group, the main one too, takes 17 octets at most, and there is a main one
+abbrev groups-small : ℕ → List Row → Bool
+groups-small zero rows = true
+groups-small (suc n) rows = leb (size (named (2 ^ n) rows)) 17 && groups-small n rows
+
+abbrev good : List Row → Bool
+good rows = groups-small 15 rows && eqb (groups-of rows % 2) 1
+
+pub record Sound (kind : ℕ) : Type 0 where
+  pub group : (l : ℕ) → l < 15 → set-length kind (2 ^ l) ≤ 17
+  pub main : groups-of (layout kind) % 2 ≡ 1
+
+group-small : (n : ℕ) (rows : List Row) → groups-small n rows ≡ true → (l : ℕ) → l < n → size (named (2 ^ l) rows) ≤ 17
+group-small zero rows e l h = absurd (omega arith)
+group-small (suc n) rows e l h = elim (tested (eqb l n)) [
+  | passed i ↦ rw (eqb-eq l n i) (leb-le (size (named (2 ^ n) rows)) 17 (and-l (leb (size (named (2 ^ n) rows)) 17) (groups-small n rows) e))
+  | failed i ↦
+      let d : l ≡ n → ⊥ = eqb-ne l n i in
+      group-small n rows (and-r (leb (size (named (2 ^ n) rows)) 17) (groups-small n rows) e) l (omega arith)
+]
+
+layout-good : (k : ℕ) → k < 6 → good (layout (suc k)) ≡ true
+unfolding layout tables treadmill cross-trainer step-climber stair-climber rower indoor-bike size named has groups-of
+layout-good k h =
+    all-in good (treadmill ∷ cross-trainer ∷ step-climber ∷ stair-climber ∷ rower ∷ indoor-bike ∷ []) [] refl k h
+
+sound-next : (k : ℕ) → k < 6 → Sound (suc k)
+sound-next k h =
+    let rows : List Row = layout (suc k) in record {
+      group = group-small 15 rows (and-l (groups-small 15 rows) (eqb (groups-of rows % 2) 1) (layout-good k h));
+      main = eqb-eq (groups-of rows % 2) 1 (and-r (groups-small 15 rows) (eqb (groups-of rows % 2) 1) (layout-good k h));
+    }
+
+pub sound : (kind : ℕ) → 1 ≤ kind → kind ≤ 6 → Sound kind
+sound zero h k = absurd (omega arith)
+sound (suc n) h k = sound-next n k

@@ -1,9 +1,13 @@
 -- Records: "A record is a kind, a set of optional groups as the bits above, a direction and the field values."
-use Prim.Native.Nat.{ℕ, _+_, _%_, _^_}
+use Prim.Native.Nat.{ℕ, _+_, _%_, _^_, _<_, _≤_}
+use mathlib.Core.Path.{_≡_}
 use mathlib.Core.Bool.{Bool, true, cond, _&&_}
 use mathlib.Core.List.{List, [], _∷_}
+use lib.Bits.{bitAnd}
 use lib.Dec.{eqb, leb, ltb}
-use lib.ListN.{getD, set}
+use lib.ListN.{getD, set, replicate}
+use mir.Syntax.{w16}
+use mir.Val.{SFits}
 use Rattle.record.specs.declared.layout.Row.{Row}
 use Rattle.record.specs.declared.record.Record.{Record}
 use Rattle.record.specs.Layout.{layout, octets-of}
@@ -78,3 +82,43 @@ formed kind groups direction v =
 
 abbrev pub well-formed : Record → Bool
 well-formed r = formed (r .kind) (r .groups) (r .direction) (wire r)
+
+-- the numbers of the fields that stand in rows, over other numbers
+unfoldable pub kept : List Row → List ℕ → List ℕ → List ℕ
+kept [] v z = z
+kept (r ∷ rows) v z = kept rows v (set z (r .1) (getD v (r .1) 0))
+
+-- what a well-formed record's tests say
+pub record Formed (k g d : ℕ) (v : List ℕ) : Type 0 where
+  pub kind-least : 1 ≤ k
+  pub kind-greatest : k ≤ 6
+  pub listed-only : bitAnd g (listed k) ≡ g
+  pub way : d < 2
+  pub ways : (k ≡ 2 → ⊥) → d ≡ 0
+  pub fit : all-fit (named (1 + g) (layout k)) v ≡ true
+  pub absent : kept (named (1 + g) (layout k)) v (replicate 31 0) ≡ v
+
+-- the bits of each field's type
+abbrev pub type-bits : List ℕ
+type-bits =
+    16 ∷ 16 ∷ 16 ∷ 8 ∷ 16 ∷ 16 ∷ 32 ∷ 16 ∷ 16 ∷ 16 ∷ 16 ∷ 16 ∷ 16 ∷ 16 ∷ 16 ∷ 8 ∷ 8 ∷ 8 ∷ 16 ∷ 16 ∷ 16 ∷ 16 ∷ 16 ∷ 16 ∷ 16 ∷ 16 ∷ 16 ∷ 16 ∷ 8 ∷ 16 ∷ 16 ∷ []
+
+-- each number of a list has no more bits than the other list says
+unfoldable pub bits-within : List ℕ → List ℕ → Bool
+bits-within [] v = true
+bits-within (b ∷ bs) [] = true
+bits-within (b ∷ bs) (x ∷ v) = ltb x (2 ^ b) && bits-within bs v
+
+abbrev pub in-types : List ℕ → Bool
+in-types v = bits-within type-bits v
+
+-- each field of a record fits its type
+pub record Typed (r : Record) : Type 0 where
+  pub numbers : in-types (wire r) ≡ true
+  pub inclination : SFits w16 (r .slope .inclination .0)
+  pub ramp-angle : SFits w16 (r .slope .«ramp_angle» .0)
+  pub belt : SFits w16 (r .force .belt)
+  pub power-output : SFits w16 (r .force .«power_output»)
+  pub resistance : SFits w16 (r .resistance)
+  pub power : SFits w16 (r .power)
+  pub average-power : SFits w16 (r .«average_power»)

@@ -1,8 +1,10 @@
 // The record layer.
 pub mod feature;
+pub mod formed;
 pub mod groups;
 pub mod layout;
 pub mod notification;
+pub mod numbers;
 pub mod octets;
 pub mod record;
 pub mod refusal;

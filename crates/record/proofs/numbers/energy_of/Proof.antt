@@ -1,0 +1,7 @@
+-- `energy_of` meets its contract. Assumes nothing.
+use borrow.Author.Needs.{needs}
+use Rattle.record.proofs.numbers.energy_of.Statement.{statement}
+use Rattle.record.proofs.numbers.energy_of.Tie as tie
+
+pub energy-of-spec : {M : Type 1} → statement M
+energy-of-spec = tie.close (tie.spec (λ c κs. search needs) (λ c κs. search needs) (λ c κs. search needs) (λ c. cc))
