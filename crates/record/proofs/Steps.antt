@@ -1,12 +1,13 @@
 -- Walking along the sets of a record's parts, with the one that is asked for kept on the way.
-use Prim.Native.Nat.{ℕ, zero, suc, _+_, _-_, _<_, _≤_}
+use Prim.Native.Nat.{ℕ, zero, suc, _+_, _-_, _^_, _<_, _≤_, zero-le}
 use mathlib.Core.Path.{_≡_, refl, sym, ap, _∙_}
 use mathlib.Core.Bool.{Bool, true, false, cond}
 use mathlib.Core.List.{List, [], _∷_, _++_, append-assoc, append-nil}
+use native.Mathlib.Nat.{mod-le}
 use native.Mathlib.Omega.{arith}
 use lib.Dec.{eqb, eqb·suc-suc, eqb·zero-suc, eqb·suc-zero}
 use lib.ListN.{length, getD, length-append}
-use Rattle.record.specs.Split.{fits, run, cut}
+use Rattle.record.specs.Split.{fits, longest, run, cut}
 
 -- of the whole list, what is left, the place asked for, what was found there, and how many are passed
 pub record Reached (whole rest : List ℕ) (place found passed : ℕ) : Type 0 where
@@ -59,3 +60,18 @@ module _ (kind room left passed : ℕ) (more : passed < 16) where
     where
       next-set : cut kind room left (suc (15 - passed)) ≡ run kind room left ∷ cut kind room (left - run kind room left) (15 - passed)
       next-set = unfold cut in rw f
+
+-- every set of the parts of some groups is at most those groups and the main one
+pub cut-most : (kind room n left i : ℕ) → getD (cut kind room left n) i 0 ≤ 1 + left
+unfolding cut
+cut-most kind room zero left i = zero-le
+cut-most kind room (suc n) left i =
+    most (fits kind (1 + left) room) (run kind room left) (cut kind room (left - run kind room left) n) left i (mod-le left (2 ^ longest kind left room 15))
+    (cut-most kind room n (left - run kind room left))
+  where
+    most : (b : Bool) (x : ℕ) (rest : List ℕ) (left i : ℕ) → x ≤ left → ((j : ℕ) → getD rest j 0 ≤ 1 + (left - x)) →
+        getD (cond b ((1 + left) ∷ []) (x ∷ rest)) i 0 ≤ 1 + left
+    most true x rest left zero l h = omega arith
+    most true x rest left (suc i) l h = zero-le
+    most false x rest left zero l h = omega arith
+    most false x rest left (suc i) l h = let k : getD rest i 0 ≤ 1 + (left - x) = h i in omega arith

@@ -21,6 +21,10 @@ abbrev pub meant : SplitAnswer → Answer Extent
 meant (Part e) = given e
 meant (Refused x) = refused (number-of x)
 
+-- "12: payload not 20 to 512"
+abbrev pub payload-known : ℕ → Bool
+payload-known payload = leb 20 payload && leb payload 512
+
 -- whether the groups of a set fit in room octets
 abbrev pub fits : ℕ → ℕ → ℕ → Bool
 fits kind set room = leb (set-length kind set) room
@@ -62,21 +66,27 @@ flags set direction = turned set + direction * 2 ^ 15
 abbrev pub octets : ℕ → ℕ → ℕ → List ℕ → List ℕ
 octets kind set direction v = spelled (flags-octets kind) (flags set direction) ++ written (named set (layout kind)) v
 
--- the octets of part i of a record at a payload
+-- part i of a record: its set at a payload, and its octets
+abbrev pub set-at : ℕ → ℕ → ℕ → ℕ → ℕ
+set-at kind groups payload i = getD (sets-of kind groups payload) i 0
+
 abbrev pub part-octets : Record → ℕ → ℕ → List ℕ
-part-octets r payload i = octets (r .kind) (getD (sets-of (r .kind) (r .groups) payload) i 0) (r .direction) (wire r)
+part-octets r payload i = octets (r .kind) (set-at (r .kind) (r .groups) payload i) (r .direction) (wire r)
+
+-- a part's length and the number of parts, or the first of the refusals 15 and 14 that applies
+unfoldable pub extent-of : ℕ → ℕ → ℕ → List ℕ → ℕ → ℕ → ℕ → Answer Extent
+extent-of kind groups direction v payload i lent =
+    let size : ℕ = length (octets kind (set-at kind groups payload i) direction v) in
+    let count : ℕ = length (sets-of kind groups payload) in
+    provided (ltb i count) 15 (provided (leb size lent) 14 (given (record { length = size; parts = count })))
 
 -- "The answer for part i, counted from 0, is its octets, its length and the number of parts": here the latter two, or the first of the
 -- refusals 11, 12, 13, 15 and 14 that applies
 unfoldable pub split-of : Record → ℕ → ℕ → ℕ → Answer Extent
 split-of r payload i lent =
-    let parts : ℕ = length (sets-of (r .kind) (r .groups) payload) in
-    let size : ℕ = length (part-octets r payload i) in
     provided (known (r .kind)) 11
-    (provided (leb 20 payload && leb payload 512) 12
-    (provided (well-formed r) 13
-    (provided (ltb i parts) 15
-    (provided (leb size lent) 14 (given (record { length = size; parts = parts }))))))
+    (provided (payload-known payload) 12
+    (provided (well-formed r) 13 (extent-of (r .kind) (r .groups) (r .direction) (wire r) payload i lent)))
 
 -- the lent octets afterwards: the part's, and past its length those that were lent
 abbrev pub lent-after : Record → ℕ → ℕ → List ℕ → List ℕ

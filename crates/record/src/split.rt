@@ -1,4 +1,5 @@
 // Splitting a record into parts, each a notification that fits a payload.
+use crate::formed::formed;
 use crate::groups::BITS;
 use crate::groups::flags_length;
 use crate::groups::group_length;
@@ -10,6 +11,7 @@ use crate::layout::Row;
 use crate::layout::octets;
 use crate::layout::row_count;
 use crate::layout::row_of;
+use crate::numbers::numbers_of;
 use crate::octets::put_u16;
 use crate::octets::put_u24;
 use crate::octets::put_value;
@@ -23,13 +25,21 @@ ghost use lib.Dec.{eqb};
 ghost use lib.ListN.{length, getD};
 ghost use Rattle.record.specs.Layout.{octets-of, layout};
 ghost use Rattle.record.specs.Groups.{has as Groups·has, named, flags-octets};
-ghost use Rattle.record.specs.Octets.{spelled, placed};
-ghost use Rattle.record.specs.Split.{meant, run as Split·run, cut, written, flags, octets as Split·octets, split-of, lent-after};
+ghost use Rattle.record.specs.Octets.{spelled, placed, over};
+ghost use Rattle.record.specs.Answer.{after};
+ghost use Rattle.record.specs.Split.{meant, payload-known, run as Split·run, cut, written, flags, octets as Split·octets, set-at, extent-of, split-of, lent-after};
 
 // "12: payload not 20 to 512".
 pub const LEAST_PAYLOAD: usize = 20;
 
 pub const GREATEST_PAYLOAD: usize = 512;
+
+// Whether a payload is in range.
+pub fn is_payload(payload: usize) -> bool
+    ensures { λ r. ⌜ r ≡ payload-known payload ⌝ }
+{
+    LEAST_PAYLOAD <= payload && payload <= GREATEST_PAYLOAD
+}
 
 // No record has more parts.
 const MOST_PARTS: usize = 16;
@@ -150,4 +160,55 @@ fn put_part(kind: u8, set: u32, direction: u8, numbers: &[u32; 31], out: &mut [u
 {
     put_flags(kind, set, direction, out);
     put_rows(kind, set, numbers, out);
+}
+
+// Writes a part of a record that is well formed, at a payload that is in range: refusals 15, then 14.
+fn split_numbers(
+    kind: u8,
+    groups: u32,
+    direction: u8,
+    numbers: &[u32; 31],
+    payload: usize,
+    part: usize,
+    out: &mut [u8],
+) -> SplitAnswer
+    requires { ⌜ (groups < 32767) × (direction < 2) × (20 ≤ payload) ⌝ }
+    ensures { λ r. ⌜ meant r ≡ extent-of kind groups direction (now (numbers .entry)) payload part (length (now (out .entry))) ⌝ }
+    ensures { λ r. ⌜ now (out .exit) ≡ after (extent-of kind groups direction (now (numbers .entry)) payload part (length (now (out .entry)))) (over (now (out .entry)) (Split·octets kind (set-at kind groups payload part) direction (now (numbers .entry)))) (now (out .entry)) ⌝ }
+{
+    let start = flags_length(kind);
+    let cut = cut_at(kind, groups, payload - start, part);
+    let set = cut.set;
+    let parts = cut.parts;
+    if parts <= part {
+        return SplitAnswer::Refused(Refusal::NoSuchPart);
+    }
+    let length = start + groups_length(kind, set);
+    if out.len() < length {
+        return SplitAnswer::Refused(Refusal::OutputTooShort);
+    }
+    put_part(kind, set, direction, numbers, out);
+    SplitAnswer::Part(Extent { length, parts })
+}
+
+// A part of a record, counted from 0, at a payload: its octets in the lent buffer, its length and the number of parts, or the first of the
+// refusals 11, 12, 13, 15 and 14 that applies, which writes nothing.
+pub fn split(record: Record, payload: usize, part: usize, out: &mut [u8]) -> SplitAnswer
+    ensures { λ r. ⌜ meant r ≡ split-of «record» payload part (length (now (out .entry))) ⌝ }
+    ensures { λ r. ⌜ now (out .exit) ≡ lent-after «record» payload part (now (out .entry)) ⌝ }
+{
+    let kind = record.kind;
+    if !is_known(kind) {
+        return SplitAnswer::Refused(Refusal::UnknownKind);
+    }
+    if !is_payload(payload) {
+        return SplitAnswer::Refused(Refusal::PayloadOutOfRange);
+    }
+    let numbers = numbers_of(record);
+    let groups = record.groups;
+    let direction = record.direction;
+    if !formed(kind, groups, direction, &numbers) {
+        return SplitAnswer::Refused(Refusal::NotWellFormed);
+    }
+    split_numbers(kind, groups, direction, &numbers, payload, part, out)
 }
