@@ -14,3 +14,4 @@ pub mod Steps
 pub mod Cuts
 pub mod Kept
 pub mod Parts
+pub mod Partition

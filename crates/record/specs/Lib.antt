@@ -6,4 +6,5 @@ pub mod Answer
 pub mod Record
 pub mod Notification
 pub mod Split
+pub mod Parts
 pub mod Feature

@@ -1,0 +1,23 @@
+-- What the sets of a record's parts are, said of any list of sets.
+use Prim.Native.Nat.{ℕ, suc, _+_, _<_, _≤_}
+use mathlib.Core.Path.{_≡_}
+use mathlib.Core.Bool.{Bool, true}
+use mathlib.Core.List.{List}
+use lib.Dec.{eqb}
+use lib.ListN.{length, getD}
+use Rattle.record.specs.Groups.{has, flags-octets, set-length, optional}
+
+-- the sets of the parts of a record with these groups, at a payload: bit 0 stands for the main group
+pub record PartsOf (kind groups payload : ℕ) (sets : List ℕ) : Type 0 where
+  -- there is one at least, and the last, and no other, has the main group
+  pub some : 0 < length sets
+  pub main : (i : ℕ) → i < length sets → has (getD sets i 0) 0 ≡ eqb (suc i) (length sets)
+  -- all but the last are not empty
+  pub filled : (i : ℕ) → suc i < length sets → 0 < getD sets i 0
+  -- they are disjoint and ascending: a group of one is below every group of a later one
+  pub ascending : (i j x y : ℕ) → i < j → j < length sets → has (getD sets i 0) x ≡ true → has (optional (getD sets j 0)) y ≡ true → x < y
+  -- together they are the record's groups
+  pub within : (i x : ℕ) → has (getD sets i 0) x ≡ true → has (1 + groups) x ≡ true
+  pub together : (x : ℕ) → has (1 + groups) x ≡ true → (i : ℕ) × (i < length sets) × (has (getD sets i 0) x ≡ true)
+  -- and each fits the payload
+  pub fit : (i : ℕ) → i < length sets → flags-octets kind + set-length kind (getD sets i 0) ≤ payload
