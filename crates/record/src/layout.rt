@@ -101,169 +101,148 @@ const U24: Width = Width::U24;
 
 const S16: Width = Width::S16;
 
-const TREADMILL_ROWS: [Row; 18] = [
-    Row(0, SPEED, U16),
-    Row(1, AVERAGE_SPEED, U16),
-    Row(2, DISTANCE, U24),
-    Row(3, INCLINATION, S16),
-    Row(3, RAMP_ANGLE, S16),
-    Row(4, POSITIVE_GAIN, U16),
-    Row(4, NEGATIVE_GAIN, U16),
-    Row(5, PACE, U8),
-    Row(6, AVERAGE_PACE, U8),
-    Row(7, TOTAL_ENERGY, U16),
-    Row(7, ENERGY_PER_HOUR, U16),
-    Row(7, ENERGY_PER_MINUTE, U8),
-    Row(8, HEART_RATE, U8),
-    Row(9, METABOLIC_EQUIVALENT, U8),
-    Row(10, ELAPSED, U16),
-    Row(11, REMAINING, U16),
-    Row(12, BELT_FORCE, S16),
-    Row(12, POWER_OUTPUT, S16),
-];
-
-const CROSS_TRAINER_ROWS: [Row; 20] = [
-    Row(0, SPEED, U16),
-    Row(1, AVERAGE_SPEED, U16),
-    Row(2, DISTANCE, U24),
-    Row(3, STEP_RATE, U16),
-    Row(3, AVERAGE_STEP_RATE, U16),
-    Row(4, STRIDE_COUNT, U16),
-    Row(5, POSITIVE_GAIN, U16),
-    Row(5, NEGATIVE_GAIN, U16),
-    Row(6, INCLINATION, S16),
-    Row(6, RAMP_ANGLE, S16),
-    Row(7, RESISTANCE, S16),
-    Row(8, POWER, S16),
-    Row(9, AVERAGE_POWER, S16),
-    Row(10, TOTAL_ENERGY, U16),
-    Row(10, ENERGY_PER_HOUR, U16),
-    Row(10, ENERGY_PER_MINUTE, U8),
-    Row(11, HEART_RATE, U8),
-    Row(12, METABOLIC_EQUIVALENT, U8),
-    Row(13, ELAPSED, U16),
-    Row(14, REMAINING, U16),
-];
-
-const STEP_CLIMBER_ROWS: [Row; 12] = [
-    Row(0, FLOORS, U16),
-    Row(0, STEPS, U16),
-    Row(1, STEP_RATE, U16),
-    Row(2, AVERAGE_STEP_RATE, U16),
-    Row(3, POSITIVE_GAIN, U16),
-    Row(4, TOTAL_ENERGY, U16),
-    Row(4, ENERGY_PER_HOUR, U16),
-    Row(4, ENERGY_PER_MINUTE, U8),
-    Row(5, HEART_RATE, U8),
-    Row(6, METABOLIC_EQUIVALENT, U8),
-    Row(7, ELAPSED, U16),
-    Row(8, REMAINING, U16),
-];
-
-const STAIR_CLIMBER_ROWS: [Row; 12] = [
-    Row(0, FLOORS, U16),
-    Row(1, STEP_RATE, U16),
-    Row(2, AVERAGE_STEP_RATE, U16),
-    Row(3, POSITIVE_GAIN, U16),
-    Row(4, STRIDE_COUNT, U16),
-    Row(5, TOTAL_ENERGY, U16),
-    Row(5, ENERGY_PER_HOUR, U16),
-    Row(5, ENERGY_PER_MINUTE, U8),
-    Row(6, HEART_RATE, U8),
-    Row(7, METABOLIC_EQUIVALENT, U8),
-    Row(8, ELAPSED, U16),
-    Row(9, REMAINING, U16),
-];
-
-const ROWER_ROWS: [Row; 16] = [
-    Row(0, STROKE_RATE, U8),
-    Row(0, STROKE_COUNT, U16),
-    Row(1, AVERAGE_STROKE_RATE, U8),
-    Row(2, DISTANCE, U24),
-    Row(3, PACE, U16),
-    Row(4, AVERAGE_PACE, U16),
-    Row(5, POWER, S16),
-    Row(6, AVERAGE_POWER, S16),
-    Row(7, RESISTANCE, S16),
-    Row(8, TOTAL_ENERGY, U16),
-    Row(8, ENERGY_PER_HOUR, U16),
-    Row(8, ENERGY_PER_MINUTE, U8),
-    Row(9, HEART_RATE, U8),
-    Row(10, METABOLIC_EQUIVALENT, U8),
-    Row(11, ELAPSED, U16),
-    Row(12, REMAINING, U16),
-];
-
-const INDOOR_BIKE_ROWS: [Row; 15] = [
-    Row(0, SPEED, U16),
-    Row(1, AVERAGE_SPEED, U16),
-    Row(2, CADENCE, U16),
-    Row(3, AVERAGE_CADENCE, U16),
-    Row(4, DISTANCE, U24),
-    Row(5, RESISTANCE, S16),
-    Row(6, POWER, S16),
-    Row(7, AVERAGE_POWER, S16),
-    Row(8, TOTAL_ENERGY, U16),
-    Row(8, ENERGY_PER_HOUR, U16),
-    Row(8, ENERGY_PER_MINUTE, U8),
-    Row(9, HEART_RATE, U8),
-    Row(10, METABOLIC_EQUIVALENT, U8),
-    Row(11, ELAPSED, U16),
-    Row(12, REMAINING, U16),
-];
+// The row that stands for none: past the last, and of no kind.
+const NO_ROW: Row = Row(0, SPEED, U8);
 
 fn treadmill_row(i: usize) -> Row
     ensures { λ r. ⌜ r ≡ getD treadmill i no-row ⌝ }
 {
-    if 18 <= i {
-        return Row(0, SPEED, U8);
+    match i {
+        0 => Row(0, SPEED, U16),
+        1 => Row(1, AVERAGE_SPEED, U16),
+        2 => Row(2, DISTANCE, U24),
+        3 => Row(3, INCLINATION, S16),
+        4 => Row(3, RAMP_ANGLE, S16),
+        5 => Row(4, POSITIVE_GAIN, U16),
+        6 => Row(4, NEGATIVE_GAIN, U16),
+        7 => Row(5, PACE, U8),
+        8 => Row(6, AVERAGE_PACE, U8),
+        9 => Row(7, TOTAL_ENERGY, U16),
+        10 => Row(7, ENERGY_PER_HOUR, U16),
+        11 => Row(7, ENERGY_PER_MINUTE, U8),
+        12 => Row(8, HEART_RATE, U8),
+        13 => Row(9, METABOLIC_EQUIVALENT, U8),
+        14 => Row(10, ELAPSED, U16),
+        15 => Row(11, REMAINING, U16),
+        16 => Row(12, BELT_FORCE, S16),
+        17 => Row(12, POWER_OUTPUT, S16),
+        _ => NO_ROW,
     }
-    TREADMILL_ROWS[i]
 }
 
 fn cross_trainer_row(i: usize) -> Row
     ensures { λ r. ⌜ r ≡ getD cross-trainer i no-row ⌝ }
 {
-    if 20 <= i {
-        return Row(0, SPEED, U8);
+    match i {
+        0 => Row(0, SPEED, U16),
+        1 => Row(1, AVERAGE_SPEED, U16),
+        2 => Row(2, DISTANCE, U24),
+        3 => Row(3, STEP_RATE, U16),
+        4 => Row(3, AVERAGE_STEP_RATE, U16),
+        5 => Row(4, STRIDE_COUNT, U16),
+        6 => Row(5, POSITIVE_GAIN, U16),
+        7 => Row(5, NEGATIVE_GAIN, U16),
+        8 => Row(6, INCLINATION, S16),
+        9 => Row(6, RAMP_ANGLE, S16),
+        10 => Row(7, RESISTANCE, S16),
+        11 => Row(8, POWER, S16),
+        12 => Row(9, AVERAGE_POWER, S16),
+        13 => Row(10, TOTAL_ENERGY, U16),
+        14 => Row(10, ENERGY_PER_HOUR, U16),
+        15 => Row(10, ENERGY_PER_MINUTE, U8),
+        16 => Row(11, HEART_RATE, U8),
+        17 => Row(12, METABOLIC_EQUIVALENT, U8),
+        18 => Row(13, ELAPSED, U16),
+        19 => Row(14, REMAINING, U16),
+        _ => NO_ROW,
     }
-    CROSS_TRAINER_ROWS[i]
 }
 
 fn step_climber_row(i: usize) -> Row
     ensures { λ r. ⌜ r ≡ getD step-climber i no-row ⌝ }
 {
-    if 12 <= i {
-        return Row(0, SPEED, U8);
+    match i {
+        0 => Row(0, FLOORS, U16),
+        1 => Row(0, STEPS, U16),
+        2 => Row(1, STEP_RATE, U16),
+        3 => Row(2, AVERAGE_STEP_RATE, U16),
+        4 => Row(3, POSITIVE_GAIN, U16),
+        5 => Row(4, TOTAL_ENERGY, U16),
+        6 => Row(4, ENERGY_PER_HOUR, U16),
+        7 => Row(4, ENERGY_PER_MINUTE, U8),
+        8 => Row(5, HEART_RATE, U8),
+        9 => Row(6, METABOLIC_EQUIVALENT, U8),
+        10 => Row(7, ELAPSED, U16),
+        11 => Row(8, REMAINING, U16),
+        _ => NO_ROW,
     }
-    STEP_CLIMBER_ROWS[i]
 }
 
 fn stair_climber_row(i: usize) -> Row
     ensures { λ r. ⌜ r ≡ getD stair-climber i no-row ⌝ }
 {
-    if 12 <= i {
-        return Row(0, SPEED, U8);
+    match i {
+        0 => Row(0, FLOORS, U16),
+        1 => Row(1, STEP_RATE, U16),
+        2 => Row(2, AVERAGE_STEP_RATE, U16),
+        3 => Row(3, POSITIVE_GAIN, U16),
+        4 => Row(4, STRIDE_COUNT, U16),
+        5 => Row(5, TOTAL_ENERGY, U16),
+        6 => Row(5, ENERGY_PER_HOUR, U16),
+        7 => Row(5, ENERGY_PER_MINUTE, U8),
+        8 => Row(6, HEART_RATE, U8),
+        9 => Row(7, METABOLIC_EQUIVALENT, U8),
+        10 => Row(8, ELAPSED, U16),
+        11 => Row(9, REMAINING, U16),
+        _ => NO_ROW,
     }
-    STAIR_CLIMBER_ROWS[i]
 }
 
 fn rower_row(i: usize) -> Row
     ensures { λ r. ⌜ r ≡ getD rower i no-row ⌝ }
 {
-    if 16 <= i {
-        return Row(0, SPEED, U8);
+    match i {
+        0 => Row(0, STROKE_RATE, U8),
+        1 => Row(0, STROKE_COUNT, U16),
+        2 => Row(1, AVERAGE_STROKE_RATE, U8),
+        3 => Row(2, DISTANCE, U24),
+        4 => Row(3, PACE, U16),
+        5 => Row(4, AVERAGE_PACE, U16),
+        6 => Row(5, POWER, S16),
+        7 => Row(6, AVERAGE_POWER, S16),
+        8 => Row(7, RESISTANCE, S16),
+        9 => Row(8, TOTAL_ENERGY, U16),
+        10 => Row(8, ENERGY_PER_HOUR, U16),
+        11 => Row(8, ENERGY_PER_MINUTE, U8),
+        12 => Row(9, HEART_RATE, U8),
+        13 => Row(10, METABOLIC_EQUIVALENT, U8),
+        14 => Row(11, ELAPSED, U16),
+        15 => Row(12, REMAINING, U16),
+        _ => NO_ROW,
     }
-    ROWER_ROWS[i]
 }
 
 fn indoor_bike_row(i: usize) -> Row
     ensures { λ r. ⌜ r ≡ getD indoor-bike i no-row ⌝ }
 {
-    if 15 <= i {
-        return Row(0, SPEED, U8);
+    match i {
+        0 => Row(0, SPEED, U16),
+        1 => Row(1, AVERAGE_SPEED, U16),
+        2 => Row(2, CADENCE, U16),
+        3 => Row(3, AVERAGE_CADENCE, U16),
+        4 => Row(4, DISTANCE, U24),
+        5 => Row(5, RESISTANCE, S16),
+        6 => Row(6, POWER, S16),
+        7 => Row(7, AVERAGE_POWER, S16),
+        8 => Row(8, TOTAL_ENERGY, U16),
+        9 => Row(8, ENERGY_PER_HOUR, U16),
+        10 => Row(8, ENERGY_PER_MINUTE, U8),
+        11 => Row(9, HEART_RATE, U8),
+        12 => Row(10, METABOLIC_EQUIVALENT, U8),
+        13 => Row(11, ELAPSED, U16),
+        14 => Row(12, REMAINING, U16),
+        _ => NO_ROW,
     }
-    INDOOR_BIKE_ROWS[i]
 }
 
 // The octets that a width takes.
@@ -304,6 +283,6 @@ pub fn row_of(kind: u8, i: usize) -> Row
         STAIR_CLIMBER => stair_climber_row(i),
         ROWER => rower_row(i),
         INDOOR_BIKE => indoor_bike_row(i),
-        _ => Row(0, SPEED, U8),
+        _ => NO_ROW,
     }
 }
