@@ -15,3 +15,6 @@ pub mod Cuts
 pub mod Kept
 pub mod Parts
 pub mod Partition
+pub mod Once
+pub mod AllCases
+pub mod Again

@@ -7,4 +7,5 @@ pub mod Record
 pub mod Notification
 pub mod Split
 pub mod Parts
+pub mod Cases
 pub mod Feature

@@ -46,7 +46,8 @@ run kind room set = set % 2 ^ longest kind set room 15
 unfoldable pub cut : ℕ → ℕ → ℕ → ℕ → List ℕ
 cut kind room set zero = []
 cut kind room set (suc n) =
-    let more : List ℕ = run kind room set ∷ cut kind room (set - run kind room set) n in
+    let first : ℕ = run kind room set in
+    let more : List ℕ = first ∷ cut kind room (set - first) n in
     cond (fits kind (1 + set) room) ((1 + set) ∷ []) more
 
 -- the sets of the parts of a record at a payload: no record has more than sixteen

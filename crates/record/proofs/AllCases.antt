@@ -1,0 +1,58 @@
+-- Every case of the table holds, by computation.
+use Prim.Native.Nat.{ℕ}
+use mathlib.Core.Path.{_≡_, refl}
+use mathlib.Core.List.{List, [], _∷_, map}
+use lib.ListN.{length, take}
+use Rattle.record.specs.Layout.{layout, tables, treadmill, cross-trainer, step-climber, stair-climber, rower, indoor-bike}
+use Rattle.record.specs.Groups.{has, named, size, groups-of, listed, flags-octets}
+use Rattle.record.specs.Octets.{spelled, number}
+use Rattle.record.specs.Split.{longest, cut, written, octets, sets-of, split-of}
+use Rattle.record.specs.Cases.{parts, Holds, cases, Every}
+
+-- a row of the table, by the sets of the parts: they are computed once
+row : (kind groups p direction : ℕ) (sets lengths : List ℕ) (flags : List (List ℕ)) → listed kind ≡ groups → sets-of kind groups p ≡ sets →
+    ((v : List ℕ) →
+    (map length (map (λ set. octets kind set direction v) sets) ≡ lengths) ×
+    (map (take (flags-octets kind)) (map (λ set. octets kind set direction v) sets) ≡ flags)) →
+    Holds (parts kind groups p direction lengths flags)
+row kind groups p direction sets lengths flags g e h = (g, λ v. rw e (h v))
+
+pub cases-hold : Every cases
+unfolding layout tables treadmill cross-trainer step-climber stair-climber rower indoor-bike has named size groups-of listed spelled number longest cut written split-of
+cases-hold = (
+  row 1 0x1FFE 20 0 (0x7E ∷ 0x1F81 ∷ []) _ _ refl refl (λ v. (refl, refl)),
+  (
+    row 2 0x7FFE 20 1 (0x3E ∷ 0x1FC0 ∷ 0x6001 ∷ []) _ _ refl refl (λ v. (refl, refl)),
+    (
+      row 3 0x1FE 20 0 (0x1FE ∷ 0x1 ∷ []) _ _ refl refl (λ v. (refl, refl)),
+      (
+        row 4 0x3FE 20 0 (0x1FE ∷ 0x201 ∷ []) _ _ refl refl (λ v. (refl, refl)),
+        (
+          row 5 0x1FFE 20 0 (0xFE ∷ 0x1F01 ∷ []) _ _ refl refl (λ v. (refl, refl)),
+          (
+            row 6 0x1FFE 20 0 (0xFE ∷ 0x1F01 ∷ []) _ _ refl refl (λ v. (refl, refl)),
+            (
+              row 6 0x1FFE 29 0 (0x1FFE ∷ 0x1 ∷ []) _ _ refl refl (λ v. (refl, refl)),
+              (
+                row 6 0x1FFE 30 0 (0x1FFF ∷ []) _ _ refl refl (λ v. (refl, refl)),
+                (
+                  λ r i lent k. rw k,
+                  (
+                    λ r i lent k. rw k,
+                    (
+                      refl,
+                      (
+                        refl,
+                        (refl, tt),
+                      ),
+                    ),
+                  ),
+                ),
+              ),
+            ),
+          ),
+        ),
+      ),
+    ),
+  ),
+)
