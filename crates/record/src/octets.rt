@@ -97,9 +97,10 @@ pub fn value_at(s: &[u8], at: usize, width: Width) -> u32
 pub fn put_u8(out: &mut [u8], at: usize, x: u8)
     ensures { λ r. ⌜ now (out .exit) ≡ placed (now (out .entry)) at (spelled 1 x) ⌝ }
 {
-    if at < out.len() {
-        out[at] = x;
+    if out.len() <= at {
+        return;
     }
+    out[at] = x;
 }
 
 // Writes two octets from a place on.

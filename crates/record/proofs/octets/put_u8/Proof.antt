@@ -10,7 +10,7 @@ pub put-u8-spec : {M : Type 1} → statement M
 put-u8-spec =
     tie.close
     (tie.spec
+    (λ c. sym (placed-past (spelled 1 _) _ (c .if1 .taken)))
     (λ c. search needs)
     (λ c. search needs)
-    (λ c. placed-one _ _ _ (search needs))
-    (λ c. sym (placed-past (spelled 1 _) _ (c .if1 .left))))
+    (λ c. placed-one _ _ _ (search needs)))
