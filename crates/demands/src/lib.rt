@@ -1,0 +1,4 @@
+// The demands as running code.
+pub fn one() -> u8 {
+    1
+}
