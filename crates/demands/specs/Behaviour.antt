@@ -10,7 +10,6 @@ use Rattle.record.specs.Answer.{Answer, refused, given}
 use Rattle.record.specs.Split.{split-of, lent-after}
 use Rattle.service.specs.declared.collector.Told.{Told}
 use Rattle.service.specs.declared.collector.Collection.{Collection}
-use Rattle.service.specs.Collector as Collector
 use Rattle.service.specs.Collector.{Said, collect, empty}
 
 -- any splitter: for a record, a payload, a part number and lent octets, what it answers, and the lent octets afterwards
