@@ -3,7 +3,7 @@ use Prim.Native.Nat.{ℕ, zero, suc, _+_, _-_, _*_, _/_, _%_, _^_, _<_, _≤_, m
 use mathlib.Core.Path.{_≡_, refl, sym, ap, _∙_}
 use mathlib.Core.Bool.{Bool, true, false, _&&_, _||_, true≢false}
 use native.Mathlib.Omega.{arith}
-use native.Mathlib.Nat.{div-eq-of-lt, div-self, le-trans, mul-mod-left, suc-mul, add-comm, mod-lt, mod-one, zero-lt-suc, pow-suc, div-one, zero-div, div-div-eq-div-mul, mul-comm}
+use native.Mathlib.Nat.{mod-eq-of-lt, one-mul, div-eq-of-lt, div-self, le-trans, mul-mod-left, suc-mul, add-comm, mod-lt, mod-one, zero-lt-suc, pow-suc, div-one, zero-div, div-div-eq-div-mul, mul-comm}
 use lib.Dec.{T, eqb, leb, ltb, eqb→eq, eqb-refl, leb→le, le→leb, nleb→lt}
 use lib.Bits.{bitAnd, bitOr, and-step, or-step, and-shr, or-shr, or-shifted, and-zero-l}
 use lib.Pow.{pow-pos, pow-mono, pow-lt, pow-add, split, shr-lt, field, mod-mod-pow, mod-pow-add}
@@ -290,3 +290,9 @@ mod-next a b e = low-digit a b ∙ rw (digit-of (a / 2 ^ b) .0 e) (omega arith)
 pub mod-stays : (a b : ℕ) → has a b ≡ false → a % 2 ^ (b + 1) ≡ a % 2 ^ b
 unfolding has
 mod-stays a b e = low-digit a b ∙ rw (digit-of (a / 2 ^ b) .1 e) (omega arith)
+
+-- a bit below 32, as the code makes it
+pub one-bit : (b : ℕ) → b < 32 → 1 * 2 ^ b % 4294967296 ≡ 2 ^ b
+one-bit b h =
+    let p : 2 ^ b < 2 ^ 32 = pow-lt h in
+    rw (one-mul (2 ^ b)) (mod-eq-of-lt p)

@@ -16,6 +16,9 @@ use Rattle.record.specs.Refusal.{number-of}
 use Rattle.service.specs.declared.collector.Told.{Told}
 use Rattle.service.specs.declared.collector.Told.the-variants.{Open, Fixed}
 use Rattle.service.specs.declared.collector.Collection.{Collection}
+use Rattle.service.specs.declared.collector.Opening.{Opening}
+use Rattle.service.specs.declared.collector.Opening.the-variants as openings
+use Rattle.service.specs.declared.collector.Opened.{Opened}
 use Rattle.service.specs.declared.collector.Collected.{Collected}
 use Rattle.service.specs.declared.collector.Collected.the-variants as answers
 
@@ -30,6 +33,13 @@ meant (answers.Waiting d) = waiting d
 meant (answers.Record r d) = handed r d
 meant (answers.Refused x d) = refused (number-of x) d
 
+abbrev pub meant-opening : Opened → Answer Collection
+meant-opening r = opened (r .answer)
+  where
+    opened : Opening → Answer Collection
+    opened openings.Opened = given (r .collection)
+    opened (openings.Refused x) = Answer.refused (number-of x)
+
 -- an answer, and the collection after it
 pub record Stepped : Type 0 where
   pub said : Said
@@ -39,9 +49,12 @@ pub record Stepped : Type 0 where
 abbrev pub zeros : List ℕ
 zeros = replicate 31 0
 
+abbrev pub collection : ℕ → Told → ℕ → List ℕ → Collection
+collection kind told held numbers = record { kind = kind; told = told; held = held; numbers = numbers }
+
 -- a collection that holds nothing
 abbrev pub empty : ℕ → Told → Collection
-empty kind told = record { kind = kind; told = told; held = 0; numbers = zeros }
+empty kind told = collection kind told 0 zeros
 
 -- the lowest group of a set, as a set, among the first n bits
 unfoldable pub lowest : ℕ → ℕ → ℕ
@@ -78,7 +91,7 @@ module _ (c : Collection) where
       cond (p .last)
       (cond (incomplete (c .told) held) (refuses 34)
       (record { said = handed (of-wire (c .kind) held (p .direction) v) dropped; next = empty (c .kind) (c .told) }))
-      (record { said = waiting dropped; next = record { kind = c .kind; told = c .told; held = held; numbers = v } })
+      (record { said = waiting dropped; next = collection (c .kind) (c .told) held v })
 
   -- a notification that the record layer reads
   abbrev pub takes : Part → List ℕ → Stepped

@@ -3,13 +3,12 @@ use Prim.Native.Nat.{ℕ, _+_, _-_, _*_, _%_, _^_, _≤_, _<_}
 use mathlib.Core.Path.{_≡_, sym, ap, ap₂, _∙_}
 use mathlib.Core.Bool.{true}
 use mathlib.Core.Logic.{⊎-elim}
-use native.Mathlib.Nat.{mod-one, mod-le, mod-eq-of-lt, one-mul}
+use native.Mathlib.Nat.{mod-one, mod-le}
 use native.Mathlib.Omega.{arith}
 use borrow.Author.Needs.{needs}
-use lib.Pow.{pow-mono}
 use Rattle.record.specs.Groups.{has, set-length}
 use Rattle.record.specs.Split.{run}
-use Rattle.record.proofs.Sets.{mod-next, mod-stays}
+use Rattle.record.proofs.Sets.{mod-next, mod-stays, one-bit}
 use Rattle.record.proofs.Tables.{octets-most, length-none, length-next, length-stays}
 use Rattle.record.proofs.Runs.{run-stops, run-whole}
 use Rattle.record.proofs.split.run.Statement.{statement}
@@ -51,12 +50,6 @@ returns c =
     l .loop .inv .1
     ∙ run-stops (a .kind) (a .set) (a .room) (l .loop .bit) (omega arith) (rw (l .loop .inv .2) at (l .loop .inv .3)) (rw (used-next (c .before)) at (c .if2 .taken))
 
--- a bit below 15, as the code makes it
-one-bit : (b : ℕ) → b ≤ 15 → 1 * 2 ^ b % 4294967296 ≡ 2 ^ b
-one-bit b h =
-    let p : 2 ^ b ≤ 2 ^ 15 = pow-mono h in
-    rw (one-mul (2 ^ b)) (mod-eq-of-lt (omega arith))
-
 -- the groups that are taken, with the bit's
 taken-next : (c : tie.Else2 Inv-loop μ-loop) →
     let l = c .before .before .before .before .before in
@@ -64,7 +57,7 @@ taken-next : (c : tie.Else2 Inv-loop μ-loop) →
 taken-next c =
     let h = c .before .before .before in
     let l = h .before .before in
-    rw (one-bit (l .loop .bit) (l .loop .inv .0), l .loop .inv .1)
+    rw (one-bit (l .loop .bit) (omega arith), l .loop .inv .1)
     (sym (mod-next (l .before .args .set) (l .loop .bit) (sym (h .has .ensures) ∙ c .before .before .if1 .taken)))
 
 add-taken : tie.Need-add-taken Inv-loop μ-loop
