@@ -173,12 +173,11 @@ fn refuse(refusal: Refusal, held: u32, numbers: &mut [u32; 31]) -> Taken
     ensures { λ r. ⌜ (meant (r .answer) ≡ refused (number-of refusal) (not (eqb held 0))) × (r .held ≡ 0) × (now (numbers .exit) ≡ zeros) ⌝ }
 {
     clear(numbers);
+    let dropped = held != 0;
+    let none: u32 = 0;
     Taken {
-        answer: Collected::Refused {
-            refusal,
-            dropped: held != 0,
-        },
-        held: 0,
+        answer: Collected::Refused { refusal, dropped },
+        held: none,
     }
 }
 

@@ -51,9 +51,10 @@ returns c =
     let r = c .before .before in
     let l = r .before .before .before in
     let s = l .before .before .before .before in
-    let e = sym (waits (before s) (s .args .part) (octets s) (drop? s) (not-true _ (c .if1 .taken))) in
-    (ap waiting (l .before .before .drops .ensures) ∙ ap (λ (t : Stepped). t .said) e,
-    ap₂ (collection (s .args .kind) (s .args .told)) (the-held l) (the-numbers r) ∙ ap (λ (t : Stepped). t .next) e)
+    let e = sym (waits (before s) (s .args .part) (octets s) (drop? s) (not-true _ (c .if1 .taken))) in (
+      ap waiting (l .before .before .drops .ensures) ∙ ap (λ (t : Stepped). t .said) e,
+      ap₂ (collection (s .args .kind) (s .args .told)) (the-held l) (the-numbers r) ∙ ap (λ (t : Stepped). t .next) e,
+    )
 
 -- what the test of the held set found
 judged : (c : tie.After-incomplete) →
@@ -70,9 +71,10 @@ returns-2 c =
     let l = i .before .before .before .before .before .before in
     let s = l .before .before .before .before in
     let e =
-    sym (lacks (before s) (s .args .part) (octets s) (drop? s) (not-false _ (i .before .if1 .left)) (sym (judged i) ∙ t .if2 .taken)) in
-    (c .refuse .ensures .0 ∙ ap (λ (x : Stepped). x .said) e,
-    ap₂ (collection (s .args .kind) (s .args .told)) (c .refuse .ensures .1) (c .refuse .ensures .2) ∙ ap (λ (x : Stepped). x .next) e)
+    sym (lacks (before s) (s .args .part) (octets s) (drop? s) (not-false _ (i .before .if1 .left)) (sym (judged i) ∙ t .if2 .taken)) in (
+      c .refuse .ensures .0 ∙ ap (λ (x : Stepped). x .said) e,
+      ap₂ (collection (s .args .kind) (s .args .told)) (c .refuse .ensures .1) (c .refuse .ensures .2) ∙ ap (λ (x : Stepped). x .next) e,
+    )
 
 returns-3 : tie.Need-returns-3
 returns-3 c =
@@ -84,12 +86,13 @@ returns-3 c =
     let s = l .before .before .before .before in
     let a = s .args in
     let e =
-    sym (hands (before s) (a .part) (octets s) (drop? s) (not-false _ (i .before .if1 .left)) (sym (judged i) ∙ t .if2 .left)) in
-    (ap₂ handed
-    (o .record-of .ensures ∙ ap₂ (λ (g : ℕ) (v : List ℕ). of-wire (a .kind) g (a .part .direction) v) (the-held l) (the-numbers r))
-    (l .before .before .drops .ensures)
-    ∙ ap (λ (x : Stepped). x .said) e,
-    ap (collection (a .kind) (a .told) 0) (c .clear .ensures) ∙ ap (λ (x : Stepped). x .next) e)
+    sym (hands (before s) (a .part) (octets s) (drop? s) (not-false _ (i .before .if1 .left)) (sym (judged i) ∙ t .if2 .left)) in (
+      ap₂ handed
+          (o .record-of .ensures ∙ ap₂ (λ (g : ℕ) (v : List ℕ). of-wire (a .kind) g (a .part .direction) v) (the-held l) (the-numbers r))
+          (l .before .before .drops .ensures)
+          ∙ ap (λ (x : Stepped). x .said) e,
+      ap (collection (a .kind) (a .told) 0) (c .clear .ensures) ∙ ap (λ (x : Stepped). x .next) e,
+    )
 
 pub join-spec : {M : Type 1} → statement M
 join-spec =

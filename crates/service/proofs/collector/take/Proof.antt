@@ -34,9 +34,10 @@ returns c =
     let t = c .before .before in
     let p = t .before .before .before in
     let s = p .before .before .before .before in
-    let e = sym (not-told (before s) (octets s) (p .part .given .0 .0) (is-read p) (sym (t .before .outside .ensures) ∙ t .if1 .taken)) in
-    (c .refuse2 .ensures .0 ∙ ap (λ (x : Stepped). x .said) e,
-    ap₂ (collection (s .args .kind) (s .args .told)) (c .refuse2 .ensures .1) (c .refuse2 .ensures .2) ∙ ap (λ (x : Stepped). x .next) e)
+    let e = sym (not-told (before s) (octets s) (p .part .given .0 .0) (is-read p) (sym (t .before .outside .ensures) ∙ t .if1 .taken)) in (
+      c .refuse2 .ensures .0 ∙ ap (λ (x : Stepped). x .said) e,
+      ap₂ (collection (s .args .kind) (s .args .told)) (c .refuse2 .ensures .1) (c .refuse2 .ensures .2) ∙ ap (λ (x : Stepped). x .next) e,
+    )
 
 join-requires : tie.Need-join-requires
 join-requires c κs = is-read (c .before .before .before .before)
@@ -46,9 +47,10 @@ returns-2 c =
     let r = c .before .before .before in
     let s = r .before .before .before .before in
     let n = sym (r .before .before .part-of .ensures) ∙ ap Notification.meant (r .refusal .given .1) in
-    let e = sym (not-read (before s) (octets s) (number-of (r .refusal .given .0 .0)) n) in
-    (c .refuse .ensures .0 ∙ ap (λ (x : Stepped). x .said) e,
-    ap₂ (collection (s .args .kind) (s .args .told)) (c .refuse .ensures .1) (c .refuse .ensures .2) ∙ ap (λ (x : Stepped). x .next) e)
+    let e = sym (not-read (before s) (octets s) (number-of (r .refusal .given .0 .0)) n) in (
+      c .refuse .ensures .0 ∙ ap (λ (x : Stepped). x .said) e,
+      ap₂ (collection (s .args .kind) (s .args .told)) (c .refuse .ensures .1) (c .refuse .ensures .2) ∙ ap (λ (x : Stepped). x .next) e,
+    )
 
 returns-3 : tie.Need-returns-3
 returns-3 c =

@@ -1,0 +1,82 @@
+-- No second answer and no second state meets the collector's contracts.
+use Prim.Native.Nat.{ℕ}
+use mathlib.Core.Path.{_≡_, refl, sym, ap, ap₂, _∙_}
+use mathlib.Core.Bool.{Bool}
+use native.Mathlib.Omega.{arith}
+use Rattle.record.specs.declared.record.Record.{Record}
+use Rattle.record.specs.Answer.{Answer, given}
+use Rattle.record.specs.Refusal.{number-of}
+use Rattle.record.specs.Answer as Answer
+use Rattle.record.proofs.Once.{Once}
+use Rattle.record.proofs.RefusalLaws.{number-once}
+use Rattle.service.specs.declared.collector.Collection.{Collection}
+use Rattle.service.specs.declared.collector.Collected.{Collected}
+use Rattle.service.specs.declared.collector.Collected.the-variants as answers
+use Rattle.service.specs.declared.collector.Opening.{Opening}
+use Rattle.service.specs.declared.collector.Opening.the-variants as openings
+use Rattle.service.specs.declared.collector.Opened.{Opened}
+use Rattle.service.specs.Collector.{Said, waiting, handed, refused, meant, meant-opening}
+use Rattle.service.proofs.collector.open.Reads as open-reads
+use Rattle.service.proofs.collector.collect.Reads as collect-reads
+
+-- ---- the meaning of an answer is the answer
+
+-- the case of a meaning
+tag : Said → ℕ
+tag (waiting d) = 0
+tag (handed r d) = 1
+tag (refused n d) = 2
+
+apart : {a b : Said} → a ≡ b → tag a ≡ tag b
+apart e = ap tag e
+
+same-waiting : (d e : Bool) → waiting d ≡ waiting e → d ≡ e
+same-waiting d e h = cc
+
+same-record : (r s : Record) (d e : Bool) → handed r d ≡ handed s e → r ≡ s
+same-record r s d e h = cc
+
+same-dropped : (r s : Record) (d e : Bool) → handed r d ≡ handed s e → d ≡ e
+same-dropped r s d e h = cc
+
+same-number : (m n : ℕ) (d e : Bool) → refused m d ≡ refused n e → m ≡ n
+same-number m n d e h = cc
+
+same-refused : (m n : ℕ) (d e : Bool) → refused m d ≡ refused n e → d ≡ e
+same-refused m n d e h = cc
+
+collected-meant : (x y : Collected) → meant x ≡ meant y → x ≡ y
+unfolding tag
+collected-meant (answers.Waiting d) (answers.Waiting e) h = ap answers.Waiting (same-waiting d e h)
+collected-meant (answers.Waiting d) (answers.Record s e) h = absurd (omega (arith, apart h))
+collected-meant (answers.Waiting d) (answers.Refused n e) h = absurd (omega (arith, apart h))
+collected-meant (answers.Record r d) (answers.Waiting e) h = absurd (omega (arith, apart h))
+collected-meant (answers.Record r d) (answers.Record s e) h = ap₂ answers.Record (same-record r s d e h) (same-dropped r s d e h)
+collected-meant (answers.Record r d) (answers.Refused n e) h = absurd (omega (arith, apart h))
+collected-meant (answers.Refused m d) (answers.Waiting e) h = absurd (omega (arith, apart h))
+collected-meant (answers.Refused m d) (answers.Record s e) h = absurd (omega (arith, apart h))
+collected-meant (answers.Refused m d) (answers.Refused n e) h =
+    ap₂ answers.Refused (number-once m n (same-number (number-of m) (number-of n) d e h)) (same-refused (number-of m) (number-of n) d e h)
+
+pub collect-once : Once collect-reads.Post
+collect-once κs a x y s t p q =
+    let e : x .answer ≡ y .answer = collected-meant (x .answer) (y .answer) (p .0 ∙ sym (q .0)) in
+    let n : x .next ≡ y .next = p .1 ∙ sym (q .1) in λ i. record { answer = e i; next = n i }
+
+never : (c : Collection) (n : ℕ) → _≡_ {A = Answer Collection} (given c) (Answer.refused n) → ⊥
+never c n e = let z : _≡_ {A = ℕ} 0 1 = cc in omega arith
+
+same-refusal : (m n : ℕ) → _≡_ {A = Answer Collection} (Answer.refused m) (Answer.refused n) → m ≡ n
+same-refusal m n e = cc
+
+opening-meant : (a b : Opening) (c d : Collection) →
+    meant-opening (record { answer = a; collection = c }) ≡ meant-opening (record { answer = b; collection = d }) → a ≡ b
+opening-meant openings.Opened openings.Opened c d e = refl
+opening-meant openings.Opened (openings.Refused n) c d e = absurd (never c (number-of n) e)
+opening-meant (openings.Refused m) openings.Opened c d e = absurd (never d (number-of m) (sym e))
+opening-meant (openings.Refused m) (openings.Refused n) c d e = ap openings.Refused (number-once m n (same-refusal (number-of m) (number-of n) e))
+
+pub open-once : Once open-reads.Post
+open-once κs a x y s t p q =
+    let e : x .answer ≡ y .answer = opening-meant (x .answer) (y .answer) (x .collection) (y .collection) (p .0 ∙ sym (q .0)) in
+    let n : x .collection ≡ y .collection = p .1 ∙ sym (q .1) in λ i. record { answer = e i; collection = n i }
