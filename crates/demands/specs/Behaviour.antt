@@ -75,10 +75,12 @@ pub record SplitsAsPromised (s : Splitter) : Type 0 where
   pub answers : (r : Record) (payload i : ℕ) (out : List ℕ) → s .answer r payload i out ≡ split-of r payload i (length out)
   pub leaves : (r : Record) (payload i : ℕ) (out : List ℕ) → s .left r payload i out ≡ lent-after r payload i out
 
--- a collector that meets the contracts of `service::collector::open` and `collect`
-abbrev pub collector-of : (Collection → List ℕ → Said) → (Collection → List ℕ → Collection) → Collector
-collector-of said next = record { State = Collection; opened = empty; step = λ c s. (said c s, next c s) }
+-- a collector over the states of `service::collector`, by what a collection is opened with, what it says and what is next
+abbrev pub collector-of : (ℕ → Told → Collection) → (Collection → List ℕ → Said) → (Collection → List ℕ → Collection) → Collector
+collector-of opened said next = record { State = Collection; opened = opened; step = λ c s. (said c s, next c s) }
 
-pub record CollectsAsPromised (said : Collection → List ℕ → Said) (next : Collection → List ℕ → Collection) : Type 0 where
+-- one that meets the contracts of `service::collector::open` and `collect`
+pub record CollectsAsPromised (opened : ℕ → Told → Collection) (said : Collection → List ℕ → Said) (next : Collection → List ℕ → Collection) : Type 0 where
+  pub opens-so : (kind : ℕ) (told : Told) → opened kind told ≡ empty kind told
   pub says-so : (c : Collection) (s : List ℕ) → said c s ≡ collect c s .said
   pub goes-on : (c : Collection) (s : List ℕ) → next c s ≡ collect c s .next

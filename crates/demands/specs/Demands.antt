@@ -96,6 +96,7 @@ Chunks k (b ∷ bs) = (length b ≡ k) × Chunks k bs
 -- A collector freshly opened for that kind and set .."
 pub record Demand3 (s : Splitter) (c : Collector) : Type 0 where
   pub takes : (kind groups payload : ℕ) → ℕ
+  pub some : (payload : ℕ) → payload-known payload ≡ true → (r : Record) → Good r → 0 < length (pieces s payload r)
   pub taken : (payload : ℕ) → payload-known payload ≡ true → (r : Record) → Good r → length (pieces s payload r) ≡ takes (r .kind) (r .groups) payload
   pub holds : (kind groups payload : ℕ) → payload-known payload ≡ true → (rs : List Record) → Alike kind groups rs → (bs : List (List Bool)) →
       Chunks (takes kind groups payload) bs → (2 ≤ takes kind groups payload → Gaps (takes kind groups payload) 0 (flat bs)) →

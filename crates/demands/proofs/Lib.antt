@@ -1,0 +1,12 @@
+pub mod Lowest
+pub mod Taken
+pub mod Held
+pub mod Pieces
+pub mod DemandTwo
+pub mod Counted
+pub mod Streams
+pub mod DemandThree
+pub mod Samples
+pub mod Refuted
+pub mod Mixed
+pub mod Contracts
