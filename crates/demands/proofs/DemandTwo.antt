@@ -23,7 +23,7 @@ use Rattle.demands.proofs.Held.{Held, held-none, held-next, whole-first
 use Rattle.demands.proofs.Pieces.{splitter, collector, is-splitter, is-collector, low, high, pieces-are}
 
 -- waiting some times, then the record
-abbrev Comes : Sent → List Said → Type 0
+abbrev pub Comes : Sent → List Said → Type 0
 Comes r said = (n : ℕ) × (said ≡ replicate n (waiting false) ++ (handed (r .whole) false ∷ []))
 
 -- what is said to one notification, and to the rest
@@ -32,7 +32,7 @@ unfolding says
 says-first c s ss x e = rw e
 
 module _ (r : Sent) (payload : ℕ) (least : 20 ≤ payload) (most : payload ≤ 512) where
-  comes : {b q : ℕ} {ss : List ℕ} → Cuts (r .kind) (payload - flags-octets (r .kind)) b q ss → (t : Told) → Ready (r .groups) t →
+  pub comes : {b q : ℕ} {ss : List ℕ} → Cuts (r .kind) (payload - flags-octets (r .kind)) b q ss → (t : Told) → Ready (r .groups) t →
       (h : ℕ) (z : List ℕ) → Held r b q h z → bitOr h (q * 2 ^ b) ≡ r .groups → Comes r (says collector (holding (r .kind) t h z) (parts r ss))
   unfolding parts
   comes (whole {b} {q} f) t ready h z c e =

@@ -10,3 +10,6 @@ pub mod Samples
 pub mod Refuted
 pub mod Mixed
 pub mod Contracts
+pub mod Equal
+pub mod ComingBack
+pub mod DemandsOnce

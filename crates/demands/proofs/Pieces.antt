@@ -4,6 +4,7 @@ use Prim.Native.Nat.{ℕ, suc, _+_, _<_, _≤_, suc-le-suc}
 use mathlib.Core.Path.{_≡_, refl, sym, ap, ap₂, _∙_}
 use mathlib.Core.Bool.{true}
 use mathlib.Core.List.{List, [], _∷_}
+use native.Mathlib.Nat.{le-trans}
 use native.Mathlib.Omega.{arith}
 use lib.Dec.{leb}
 use lib.ListN.{length, getD, take}
@@ -13,7 +14,7 @@ use Rattle.record.specs.declared.split.Extent.{Extent}
 use Rattle.record.specs.Answer.{Answer, given, after}
 use Rattle.record.specs.Groups.{known, flags-octets, set-length}
 use Rattle.record.specs.Octets.{over}
-use Rattle.record.specs.Record.{wire, Formed}
+use Rattle.record.specs.Record.{wire, well-formed, Formed}
 use Rattle.record.specs.Split.{payload-known, set-at, sets-of, part-octets, extent-of, split-of, lent-after}
 use Rattle.service.specs.declared.collector.Collection.{Collection}
 use Rattle.service.specs.declared.collector.Told.{Told}
@@ -45,7 +46,7 @@ is-collector opened said next p =
 -- ---- what it writes
 
 -- the sets of a list, one after the other
-each-of : (r : Sent) (ss : List ℕ) (from : ℕ) (f : ℕ → List ℕ) → ((i : ℕ) → i < length ss → f (from + i) ≡ part r (getD ss i 0)) → each from (length ss) f ≡ parts r ss
+pub each-of : (r : Sent) (ss : List ℕ) (from : ℕ) (f : ℕ → List ℕ) → ((i : ℕ) → i < length ss → f (from + i) ≡ part r (getD ss i 0)) → each from (length ss) f ≡ parts r ss
 unfolding each parts
 each-of r [] from f h = refl
 each-of r (s ∷ ss) from f h =
@@ -54,38 +55,48 @@ each-of r (s ∷ ss) from f h =
     (each-of r ss (suc from) f
     (λ i l. let e : suc from + i ≡ from + suc i = omega arith in ap f e ∙ h (suc i) (suc-le-suc l)))
 
-module _ (r : Record) (w : Good r) (payload : ℕ) (p : payload-known payload ≡ true) where
-  pub low : 20 ≤ payload
-  low = leb-true 20 payload (and-l (leb 20 payload) (leb payload 512) p)
+module _ (r : Record) (w : well-formed r ≡ true) (payload : ℕ) (p : payload-known payload ≡ true) where
+  pub least : 20 ≤ payload
+  least = leb-true 20 payload (and-l (leb 20 payload) (leb payload 512) p)
 
-  pub high : payload ≤ 512
-  high = leb-true payload 512 (and-r (leb 20 payload) (leb payload 512) p)
+  pub most : payload ≤ 512
+  most = leb-true payload 512 (and-r (leb 20 payload) (leb payload 512) p)
 
   abbrev count : ℕ
   count = length (sets-of (r .kind) (r .groups) payload)
 
+  -- no part is longer than 512 octets
+  pub part-short : (i : ℕ) → i < count → length (part-octets r payload i) ≤ 512
+  part-short i h =
+      let f : flags-octets (r .kind) + set-length (r .kind) (set-at (r .kind) (r .groups) payload i) ≤ payload = record-parts r w payload p .fit i h in
+      let m : payload ≤ 512 = most in
+      rw (octets-length (r .kind) (set-at (r .kind) (r .groups) payload i) (r .direction) (wire r)) (omega arith)
+
   -- lent 512 octets, it answers with the part's length and the number of parts
-  answered : (i lent : ℕ) → i < count → 512 ≤ lent → split-of r payload i lent ≡ given (record { length = length (part-octets r payload i); parts = count })
+  pub answered : (i lent : ℕ) → i < count → 512 ≤ lent → split-of r payload i lent ≡ given (record { length = length (part-octets r payload i); parts = count })
   unfolding split-of extent-of
   answered i lent h l =
-      let k : known (r .kind) ≡ true = let f : Formed (r .kind) (r .groups) (r .direction) (wire r) = facts r (w .formed) payload p in
+      let k : known (r .kind) ≡ true = let f : Formed (r .kind) (r .groups) (r .direction) (wire r) = facts r w payload p in
       rw (le-leb 1 (r .kind) (f .kind-least), le-leb (r .kind) 6 (f .kind-greatest)) in
-      let f : flags-octets (r .kind) + set-length (r .kind) (set-at (r .kind) (r .groups) payload i) ≤ payload = record-parts r (w .formed) payload p .fit i h in
-      let m : payload ≤ 512 = high in
-      let s : leb (length (part-octets r payload i)) lent ≡ true =
-      le-leb (length (part-octets r payload i)) lent
-      (rw (octets-length (r .kind) (set-at (r .kind) (r .groups) payload i) (r .direction) (wire r)) (omega arith)) in
-      rw (k, p, w .formed, lt-ltb i count h, s)
+      let s : leb (length (part-octets r payload i)) lent ≡ true = le-leb (length (part-octets r payload i)) lent (le-trans (part-short i h) l) in
+      rw (k, p, w, lt-ltb i count h, s)
 
-  piece-is : (i : ℕ) → i < count → (out : List ℕ) → 512 ≤ length out →
+  pub piece-is : (i : ℕ) → i < count → (out : List ℕ) → 512 ≤ length out →
       take (length-of (split-of r payload i (length out))) (lent-after r payload i out) ≡ part-octets r payload i
   piece-is i h out l =
       ap (λ (a : Answer Extent). take (length-of a) (after a (over out (part-octets r payload i)) out)) (answered i (length out) h l)
       ∙ front out (part-octets r payload i)
 
+module _ (r : Record) (w : Good r) (payload : ℕ) (p : payload-known payload ≡ true) where
+  pub low : 20 ≤ payload
+  low = least r (w .formed) payload p
+
+  pub high : payload ≤ 512
+  high = most r (w .formed) payload p
+
   pub pieces-are : pieces splitter payload r ≡ parts (sent r w) (sets payload (sent r w))
   pieces-are =
-      let k : 0 < count = record-parts r (w .formed) payload p .some in
-      ap (λ (a : Answer Extent). each 0 (parts-of a) (piece splitter payload r)) (answered 0 512 k (omega arith))
+      let k : 0 < length (sets-of (r .kind) (r .groups) payload) = record-parts r (w .formed) payload p .some in
+      ap (λ (a : Answer Extent). each 0 (parts-of a) (piece splitter payload r)) (answered r (w .formed) payload p 0 512 k (omega arith))
       ∙ each-of (sent r w) (sets payload (sent r w)) 0 (piece splitter payload r)
-      (λ i h. let e : 0 + i ≡ i = omega arith in ap (piece splitter payload r) e ∙ piece-is i h buffer (omega arith))
+      (λ i h. let e : 0 + i ≡ i = omega arith in ap (piece splitter payload r) e ∙ piece-is r (w .formed) payload p i h buffer (omega arith))

@@ -1,0 +1,124 @@
+-- A record on its way back: the parts that are still to be handed to the collection.
+use Prim.Native.Nat.{ℕ, zero, suc, _+_, _-_, _<_, _≤_, zero-le}
+use mathlib.Core.Path.{_≡_, refl, sym, ap, _∙_, subst}
+use mathlib.Core.Bool.{Bool, true, false, cond}
+use mathlib.Core.List.{List, [], _∷_, _++_}
+use native.Mathlib.Numerals.{add-one}
+use native.Mathlib.Omega.{arith}
+use lib.ListN.{length, replicate}
+use Rattle.record.specs.declared.record.Record.{Record}
+use Rattle.record.specs.Record.{wire, of-wire, well-formed}
+use Rattle.record.specs.Groups.{flags-octets}
+use Rattle.record.specs.Split.{payload-known, fits, run, cut, sets-of, part-octets}
+use Rattle.record.proofs.Records.{formed-facts, formed-in-types, numbers-again}
+use Rattle.service.specs.declared.collector.Told.the-variants.{Open}
+use Rattle.service.specs.declared.collector.Collection.{Collection}
+use Rattle.service.specs.Collector.{Said, waiting, handed, Stepped, zeros, empty, collect}
+use Rattle.demands.specs.Behaviour.{each, says, same-record}
+use Rattle.demands.proofs.Lowest.{ready-open}
+use Rattle.demands.proofs.Taken.{Sent, parts}
+use Rattle.demands.proofs.Held.{held-none, whole-first, sets, record-cuts}
+use Rattle.demands.proofs.Pieces.{collector, least, most, each-of}
+use Rattle.demands.proofs.DemandTwo.{Comes, comes}
+use Rattle.demands.proofs.Equal.{same-if}
+
+-- the record made of a record's own numbers
+abbrev pub again : Record → Record
+again r = of-wire (r .kind) (r .groups) (r .direction) (wire r)
+
+abbrev own : (r : Record) → well-formed r ≡ true → Sent
+own r w = record {
+  kind = r .kind;
+  groups = r .groups;
+  direction = r .direction;
+  numbers = wire r;
+  formed = formed-facts (r .kind) (r .groups) (r .direction) (wire r) w refl;
+  whole = again r;
+  again = refl;
+}
+
+-- it is the same
+pub again-same : (r : Record) → well-formed r ≡ true → same-record r (again r) ≡ true
+again-same r w =
+    same-if r (again r) refl refl refl
+    (sym (numbers-again (r .kind) (r .groups) (r .direction) (wire r) refl (formed-in-types (r .kind) (r .groups) (r .direction) (wire r) w refl)))
+
+-- ---- lists of what is said
+
+nothing : (m : ℕ) (w h : Said) → _≡_ {A = List Said} [] (replicate m w ++ (h ∷ [])) → ⊥
+nothing zero w h e = let z : _≡_ {A = ℕ} 0 1 = cc in omega arith
+nothing (suc m) w h e = let z : _≡_ {A = ℕ} 0 1 = cc in omega arith
+
+head-same : (a b : Said) (l k : List Said) → a ∷ l ≡ b ∷ k → a ≡ b
+head-same a b l k e = cc
+
+tail-same : (a b : Said) (l k : List Said) → a ∷ l ≡ b ∷ k → l ≡ k
+tail-same a b l k e = cc
+
+module _ (r : Record) (payload : ℕ) where
+  abbrev pub count : ℕ
+  count = length (sets-of (r .kind) (r .groups) payload)
+
+  -- what is said to part i and to those behind it: waiting some times, then the record
+  pub record Left (i : ℕ) (c : Collection) : Type 0 where
+    pub below : i < count
+    pub times : ℕ
+    pub said : says collector c (each i (count - i) (part-octets r payload)) ≡ replicate times (waiting false) ++ (handed (again r) false ∷ [])
+
+  -- at first
+  pub left-all : well-formed r ≡ true → payload-known payload ≡ true → 0 < count → Left 0 (empty (r .kind) Open)
+  left-all w p some =
+      let s : Sent = own r w in
+      let y : Comes s (says collector (empty (r .kind) Open) (parts s (sets payload s))) =
+      comes s payload (least r w payload p) (most r w payload p) (record-cuts s payload (least r w payload p)) Open ready-open 0 zeros (held-none s) (whole-first s) in
+      let e : each 0 count (part-octets r payload) ≡ parts s (sets payload s) =
+      each-of s (sets payload s) 0 (part-octets r payload) (λ i h. let z : 0 + i ≡ i = omega arith in ap (part-octets r payload) z) in
+      let n : count - 0 ≡ count = omega arith in record {
+        below = some;
+        times = y .0;
+        said = ap (λ (k : ℕ). says collector (empty (r .kind) Open) (each 0 k (part-octets r payload))) n ∙ ap (says collector (empty (r .kind) Open)) e ∙ y .1;
+      }
+
+  -- what one part more gives
+  pub data Next (i : ℕ) (x : Stepped) : Type 0 where
+    comes-home : x .said ≡ handed (again r) false → Next i x
+    waits-on : x .said ≡ waiting false → Left (i + 1) (x .next) → Next i x
+
+  first-said : (i : ℕ) (c : Collection) → i < count →
+      says collector c (each i (count - i) (part-octets r payload)) ≡
+      collect c (part-octets r payload i) .said ∷ says collector (collect c (part-octets r payload i) .next) (each (suc i) (count - suc i) (part-octets r payload))
+  unfolding says each
+  first-said i c h = let n : count - i ≡ suc (count - suc i) = omega arith in rw n
+
+  -- something is said, so there is a part
+  some-left : (i m n : ℕ) (c : Collection) → count - i ≡ n →
+      says collector c (each i n (part-octets r payload)) ≡ replicate m (waiting false) ++ (handed (again r) false ∷ []) → i < count
+  unfolding says each
+  some-left i m zero c z e = absurd (nothing m (waiting false) (handed (again r) false) e)
+  some-left i m (suc n) c z e = omega arith
+
+  after : (i : ℕ) (x : Stepped) (m : ℕ) →
+      x .said ∷ says collector (x .next) (each (suc i) (count - suc i) (part-octets r payload)) ≡ replicate m (waiting false) ++ (handed (again r) false ∷ []) → Next i x
+  after i x zero e = comes-home (head-same (x .said) (handed (again r) false) (says collector (x .next) (each (suc i) (count - suc i) (part-octets r payload))) [] e)
+  after i x (suc m) e =
+      let rest : List Said = says collector (x .next) (each (suc i) (count - suc i) (part-octets r payload)) in
+      let t : rest ≡ replicate m (waiting false) ++ (handed (again r) false ∷ []) = tail-same (x .said) (waiting false) rest (replicate m (waiting false) ++ (handed (again r) false ∷ [])) e in
+      waits-on (head-same (x .said) (waiting false) rest (replicate m (waiting false) ++ (handed (again r) false ∷ [])) e)
+      (rw (add-one i) (record { below = some-left (suc i) m (count - suc i) (x .next) refl t; times = m; said = t }))
+
+  pub next : (i : ℕ) (c : Collection) → Left i c → Next i (collect c (part-octets r payload i))
+  next i c l = after i (collect c (part-octets r payload i)) (l .times) (sym (first-said i c (l .below)) ∙ l .said)
+
+-- no record has more than sixteen parts
+cut-count : (kind room n left : ℕ) → length (cut kind room left n) ≤ n
+unfolding cut
+cut-count kind room zero left = zero-le
+cut-count kind room (suc n) left =
+    more (fits kind (1 + left) room) (run kind room left) (cut kind room (left - run kind room left) n) n (cut-count kind room n (left - run kind room left))
+  where
+    more : (b : Bool) (x : ℕ) (rest : List ℕ) (n : ℕ) → length rest ≤ n → length (cond b ((1 + left) ∷ []) (x ∷ rest)) ≤ suc n
+    more true x rest n h = omega arith
+    more false x rest n h = omega arith
+
+pub count-most : (r : Record) (payload : ℕ) → count r payload ≤ 16
+count-most r payload = cut-count (r .kind) (payload - flags-octets (r .kind)) 16 (r .groups)
