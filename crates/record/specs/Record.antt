@@ -10,6 +10,7 @@ use mir.Syntax.{w16}
 use mir.Val.{SFits}
 use Rattle.record.specs.declared.layout.Row.{Row}
 use Rattle.record.specs.declared.record.Record.{Record}
+use Rattle.record.specs.Layout as Layout
 use Rattle.record.specs.Layout.{layout, octets-of}
 use Rattle.record.specs.Groups.{named, listed, known, within}
 use Rattle.record.specs.Octets.{signed, unsigned}
@@ -34,29 +35,29 @@ of-wire k g d v =
       kind = k;
       groups = g;
       direction = d;
-      speed = n 0;
-      climb = record { floors = n 1; steps = n 2 };
-      stroke = record { rate = b 3; count = n 4 };
-      «average_speed» = n 5;
-      distance = getD v 6 0;
-      slope = record { inclination = record { 0 = signed (n 7) }; «ramp_angle» = record { 0 = signed (n 8) } };
-      gain = record { positive = n 9; negative = n 10 };
-      pace = n 11;
-      «average_pace» = n 12;
-      energy = record { total = n 13; «per_hour» = n 14; «per_minute» = b 15 };
-      «heart_rate» = b 16;
-      «metabolic_equivalent» = b 17;
-      elapsed = n 18;
-      remaining = n 19;
-      force = record { belt = signed (n 20); «power_output» = signed (n 21) };
-      «step_rates» = record { rate = n 22; average = n 23 };
-      «stride_count» = n 24;
-      resistance = signed (n 25);
-      power = signed (n 26);
-      «average_power» = signed (n 27);
-      «average_stroke_rate» = b 28;
-      cadence = n 29;
-      «average_cadence» = n 30;
+      speed = n Layout.speed;
+      climb = record { floors = n Layout.floors; steps = n Layout.steps };
+      stroke = record { rate = b Layout.stroke-rate; count = n Layout.stroke-count };
+      «average_speed» = n Layout.average-speed;
+      distance = getD v Layout.distance 0;
+      slope = record { inclination = record { 0 = signed (n Layout.inclination) }; «ramp_angle» = record { 0 = signed (n Layout.ramp-angle) } };
+      gain = record { positive = n Layout.positive-gain; negative = n Layout.negative-gain };
+      pace = n Layout.pace;
+      «average_pace» = n Layout.average-pace;
+      energy = record { total = n Layout.total-energy; «per_hour» = n Layout.energy-per-hour; «per_minute» = b Layout.energy-per-minute };
+      «heart_rate» = b Layout.heart-rate;
+      «metabolic_equivalent» = b Layout.metabolic-equivalent;
+      elapsed = n Layout.elapsed;
+      remaining = n Layout.remaining;
+      force = record { belt = signed (n Layout.belt-force); «power_output» = signed (n Layout.power-output) };
+      «step_rates» = record { rate = n Layout.step-rate; average = n Layout.average-step-rate };
+      «stride_count» = n Layout.stride-count;
+      resistance = signed (n Layout.resistance);
+      power = signed (n Layout.power);
+      «average_power» = signed (n Layout.average-power);
+      «average_stroke_rate» = b Layout.average-stroke-rate;
+      cadence = n Layout.cadence;
+      «average_cadence» = n Layout.average-cadence;
     }
 
 -- "each value fits its width"
