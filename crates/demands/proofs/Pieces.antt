@@ -15,7 +15,7 @@ use Rattle.record.specs.Answer.{Answer, given, after}
 use Rattle.record.specs.Groups.{known, flags-octets, set-length}
 use Rattle.record.specs.Octets.{over}
 use Rattle.record.specs.Record.{wire, well-formed, Formed}
-use Rattle.record.specs.Split.{payload-known, set-at, sets-of, part-octets, extent-of, split-of, lent-after}
+use Rattle.record.specs.Split.{payload-known, set-at, sets-of, part-octets, extent-of, split-wire, split-of, lent-after}
 use Rattle.service.specs.declared.collector.Collection.{Collection}
 use Rattle.service.specs.declared.collector.Told.{Told}
 use Rattle.service.specs.Collector.{Said, collect, empty}
@@ -74,7 +74,7 @@ module _ (r : Record) (w : well-formed r ≡ true) (payload : ℕ) (p : payload-
 
   -- lent 512 octets, it answers with the part's length and the number of parts
   pub answered : (i lent : ℕ) → i < count → 512 ≤ lent → split-of r payload i lent ≡ given (record { length = length (part-octets r payload i); parts = count })
-  unfolding split-of extent-of
+  unfolding split-wire extent-of
   answered i lent h l =
       let k : known (r .kind) ≡ true = let f : Formed (r .kind) (r .groups) (r .direction) (wire r) = facts r w payload p in
       rw (le-leb 1 (r .kind) (f .kind-least), le-leb (r .kind) 6 (f .kind-greatest)) in

@@ -15,7 +15,7 @@ use Rattle.record.specs.Answer.{Answer, given}
 use Rattle.record.specs.Answer as Answer
 use Rattle.record.specs.Notification.{part-of, read-into, values}
 use Rattle.record.specs.Record.{all-fit, others, all-zero, formed}
-use Rattle.record.specs.Split.{longest, cut, written, extent-of, split-of, lent-after}
+use Rattle.record.specs.Split.{longest, cut, written, extent-of, split-of, lent-after, split-wire}
 use Rattle.service.specs.declared.collector.Told.{Told}
 use Rattle.service.specs.declared.collector.Told.the-variants.{Open, Fixed}
 use Rattle.service.specs.Collector.{Said, waiting, handed, refused, empty, joins, collect}
@@ -81,7 +81,7 @@ abbrev four-of-one : Answer Extent
 four-of-one = given (record { length = 4; parts = 1 })
 
 bike-answers : (split-of (bike 1) 20 0 512 ≡ four-of-one) × (split-of (bike 2) 20 0 512 ≡ four-of-one)
-unfolding split-of extent-of layout tables indoor-bike has named size groups-of listed all-fit others all-zero formed longest cut spelled written
+unfolding split-wire extent-of layout tables indoor-bike has named size groups-of listed all-fit others all-zero formed longest cut spelled written
 bike-answers = (refl, refl)
 
 silent-piece : (answer : ℕ → Answer Extent) → answer 0 ≡ four-of-one → each 0 (parts-of (answer 0)) (λ i. take (length-of (answer i)) buffer) ≡ take 4 buffer ∷ []
@@ -135,7 +135,7 @@ claimed-parts : (f : ℕ → ℕ) (answer : Answer Extent) → answer ≡ four-o
 claimed-parts f answer e = rw e
 
 first-left : take 4 (lent-after (bike 1) 20 0 buffer) ≡ bike-octets 1
-unfolding split-of extent-of layout tables indoor-bike has named size groups-of listed all-fit others all-zero formed longest cut spelled written
+unfolding split-wire extent-of layout tables indoor-bike has named size groups-of listed all-fit others all-zero formed longest cut spelled written
 first-left = refl
 
 pub not-inventing : (f : ℕ → ℕ) → (f 1 ≡ 1 → ⊥) → Demand2 (inventing f) collector → ⊥

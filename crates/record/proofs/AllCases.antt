@@ -2,11 +2,14 @@
 use Prim.Native.Nat.{ℕ}
 use mathlib.Core.Path.{_≡_, refl}
 use mathlib.Core.List.{List, [], _∷_, map}
+use mathlib.Core.Bool.{true, false}
 use lib.ListN.{length, take}
+use Rattle.record.specs.declared.record.Record.{Record}
+use Rattle.record.specs.Answer.{refused}
 use Rattle.record.specs.Layout.{layout, tables, treadmill, cross-trainer, step-climber, stair-climber, rower, indoor-bike}
-use Rattle.record.specs.Groups.{has, named, size, groups-of, listed, flags-octets}
+use Rattle.record.specs.Groups.{has, named, size, groups-of, known, listed, flags-octets}
 use Rattle.record.specs.Octets.{spelled, number}
-use Rattle.record.specs.Split.{longest, cut, written, octets, sets-of, split-of}
+use Rattle.record.specs.Split.{longest, cut, written, octets, sets-of, payload-known, split-wire, split-of}
 use Rattle.record.specs.Cases.{parts, Holds, cases, Every}
 
 -- a row of the table, by the sets of the parts: they are computed once
@@ -17,8 +20,13 @@ row : (kind groups p direction : ℕ) (sets lengths : List ℕ) (flags : List (L
     Holds (parts kind groups p direction lengths flags)
 row kind groups p direction sets lengths flags g e h = (g, λ v. rw e (h v))
 
+-- a payload that is not in range
+refused-12 : (p : ℕ) → payload-known p ≡ false → (r : Record) (i lent : ℕ) → known (r .kind) ≡ true → split-of r p i lent ≡ refused 12
+unfolding split-wire
+refused-12 p e r i lent k = rw (k, e)
+
 pub cases-hold : Every cases
-unfolding layout tables treadmill cross-trainer step-climber stair-climber rower indoor-bike has named size groups-of listed spelled number longest cut written split-of
+unfolding layout tables treadmill cross-trainer step-climber stair-climber rower indoor-bike has named size groups-of listed spelled number longest cut written
 cases-hold = (
   row 1 0x1FFE 20 0 (0x7E ∷ 0x1F81 ∷ []) _ _ refl refl (λ v. (refl, refl)),
   (
@@ -36,9 +44,9 @@ cases-hold = (
               (
                 row 6 0x1FFE 30 0 (0x1FFF ∷ []) _ _ refl refl (λ v. (refl, refl)),
                 (
-                  λ r i lent k. rw k,
+                  λ r i lent k. refused-12 19 refl r i lent k,
                   (
-                    λ r i lent k. rw k,
+                    λ r i lent k. refused-12 513 refl r i lent k,
                     (
                       refl,
                       (

@@ -54,6 +54,7 @@ use Rattle.record.proofs.octets.put_s16.Reads as octets-put-s16
 use Rattle.record.proofs.octets.put_value.Reads as octets-put-value
 use Rattle.record.proofs.notification.read.Reads as notification-read
 use Rattle.record.proofs.split.split.Reads as split-split
+use Rattle.record.proofs.split.split_numbers.Reads as split-numbers
 
 module _ {K : Type 0} {A R S : K → Type 0} (Post : (κs : K) → A κs → R κs → S κs → Type 0) where
   -- two replies that meet a contract at the same arguments are one
@@ -172,3 +173,6 @@ read-once = (λ κs a x y s t p q. part-meant x y (same (p .0) (q .0)), λ κs a
 
 pub split-once : Once split-split.Post × LeftOnce split-split.Post (λ κs s. now (s .1 .1 .1 .0))
 split-once = (λ κs a x y s t p q. extent-meant x y (same (p .0) (q .0)), λ κs a x y s t p q. same (p .1) (q .1))
+
+pub split-numbers-once : Once split-numbers.Post × LeftOnce split-numbers.Post (λ κs s. now (s .1 .1 .1 .1 .1 .1 .0))
+split-numbers-once = (λ κs a x y s t p q. extent-meant x y (same (p .0) (q .0)), λ κs a x y s t p q. same (p .1) (q .1))

@@ -46,6 +46,19 @@ pub listed-even : (kind : ℕ) → listed kind % 2 ≡ 0
 unfolding listed
 listed-even kind = let a : ℕ = groups-of (layout kind) in omega arith
 
+-- a set of listed groups
+module _ (kind groups : ℕ) (l : bitAnd groups (listed kind) ≡ groups) where
+  pub listed-groups-even : groups % 2 ≡ 0
+  listed-groups-even =
+      let m : listed kind % 2 ≡ 0 = listed-even kind in
+      let e : bitAnd groups (listed kind) % 2 ≡ min (groups % 2) (listed kind % 2) = lowest-and groups (listed kind) in
+      omega arith
+
+  pub listed-groups-low : groups < 2 ^ 15
+  listed-groups-low =
+      let h : groups ≤ listed kind = sub-le groups (listed kind) (sub-of-and groups (listed kind) l) in
+      let b : listed kind < 2 ^ 15 = listed-below kind in omega arith
+
 -- the length of a part
 pub octets-length : (kind s direction : ℕ) (v : List ℕ) → length (octets kind s direction v) ≡ flags-octets kind + set-length kind s
 octets-length kind s direction v =
@@ -77,19 +90,13 @@ module _ (kind groups direction : ℕ) (v : List ℕ) (w : Formed kind groups di
   the-sound = sound kind (w .kind-least) (w .kind-greatest)
 
   pub groups-even : groups % 2 ≡ 0
-  groups-even =
-      let m : listed kind % 2 ≡ 0 = listed-even kind in
-      let e : bitAnd groups (listed kind) % 2 ≡ min (groups % 2) (listed kind % 2) = lowest-and groups (listed kind) in
-      let l : bitAnd groups (listed kind) ≡ groups = w .listed-only in
-      omega arith
+  groups-even = listed-groups-even kind groups (w .listed-only)
 
   sub-listed : Sub groups (listed kind)
   sub-listed = sub-of-and groups (listed kind) (w .listed-only)
 
   pub groups-low : groups < 2 ^ 15
-  groups-low =
-      let h : groups ≤ listed kind = sub-le groups (listed kind) sub-listed in
-      let b : listed kind < 2 ^ 15 = listed-below kind in omega arith
+  groups-low = listed-groups-low kind groups (w .listed-only)
 
   sub-all : Sub (1 + groups) (1 + listed kind)
   sub-all = sub-main groups (listed kind) groups-even (listed-even kind) sub-listed

@@ -184,7 +184,7 @@ kept-in-types (r ∷ rows) v z s f e =
 
 -- ---- what the tests of a well-formed record say
 
-module _ (k g d : ℕ) (v : List ℕ) (h : formed k g d v ≡ true) (l : length v ≡ 31) where
+module _ (k g d : ℕ) (v : List ℕ) (h : formed k g d v ≡ true) where
   abbrev rows : List Row
   rows = named (1 + g) (layout k)
 
@@ -219,22 +219,29 @@ module _ (k g d : ℕ) (v : List ℕ) (h : formed k g d v ≡ true) (l : length 
   directions : (d < 2) × (eqb k 2 ≡ false → d ≡ 0)
   directions = direction-below (eqb k 2) (and-r t2 (leb d (cond (eqb k 2) 1 0)) first-three)
 
-  pub formed-kept : kept rows v (replicate 31 0) ≡ v
-  formed-kept = rw (sym (zeros 31 (others rows v) (length-others rows v ∙ l) (and-r t4 (all-zero (others rows v)) all-tests))) (kept-others rows v)
+  pub formed-listed : bitAnd g (listed k) ≡ g
+  formed-listed = eqb-eq (bitAnd g (listed k)) g (and-r t1 (within g (listed k)) first-two)
 
-  pub formed-facts : Formed k g d v
-  formed-facts = record {
-    kind-least = leb-true 1 k (and-l (leb 1 k) (leb k 6) (and-l t1 (within g (listed k)) first-two));
-    kind-greatest = leb-true k 6 (and-r (leb 1 k) (leb k 6) (and-l t1 (within g (listed k)) first-two));
-    listed-only = eqb-eq (bitAnd g (listed k)) g (and-r t1 (within g (listed k)) first-two);
-    way = directions .0;
-    ways = λ n. directions .1 (ne-eqb k 2 n);
-    fit = and-r t3 (all-fit rows v) first-four;
-    absent = formed-kept;
-  }
+  pub formed-way : d < 2
+  formed-way = directions .0
 
-  pub formed-in-types : in-types v ≡ true
-  unfolding bits-within
-  formed-in-types =
-      ap in-types (sym formed-kept)
-      ∙ kept-in-types rows v (replicate 31 0) (named-slim (1 + g) (layout k) (layout-slim k)) (and-r t3 (all-fit rows v) first-four) refl
+  module _ (l : length v ≡ 31) where
+    pub formed-kept : kept rows v (replicate 31 0) ≡ v
+    formed-kept = rw (sym (zeros 31 (others rows v) (length-others rows v ∙ l) (and-r t4 (all-zero (others rows v)) all-tests))) (kept-others rows v)
+
+    pub formed-facts : Formed k g d v
+    formed-facts = record {
+      kind-least = leb-true 1 k (and-l (leb 1 k) (leb k 6) (and-l t1 (within g (listed k)) first-two));
+      kind-greatest = leb-true k 6 (and-r (leb 1 k) (leb k 6) (and-l t1 (within g (listed k)) first-two));
+      listed-only = formed-listed;
+      way = formed-way;
+      ways = λ n. directions .1 (ne-eqb k 2 n);
+      fit = and-r t3 (all-fit rows v) first-four;
+      absent = formed-kept;
+    }
+
+    pub formed-in-types : in-types v ≡ true
+    unfolding bits-within
+    formed-in-types =
+        ap in-types (sym formed-kept)
+        ∙ kept-in-types rows v (replicate 31 0) (named-slim (1 + g) (layout k) (layout-slim k)) (and-r t3 (all-fit rows v) first-four) refl

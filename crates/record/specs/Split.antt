@@ -12,7 +12,7 @@ use Rattle.record.specs.declared.split.SplitAnswer.the-variants.{Part, R
 use Rattle.record.specs.Layout.{layout, octets-of}
 use Rattle.record.specs.Groups.{named, known, flags-octets, set-length, turned}
 use Rattle.record.specs.Octets.{spelled, over}
-use Rattle.record.specs.Record.{wire, well-formed}
+use Rattle.record.specs.Record.{wire, formed}
 use Rattle.record.specs.Answer.{Answer, refused, given, provided, after}
 use Rattle.record.specs.Refusal.{number-of}
 
@@ -82,12 +82,16 @@ extent-of kind groups direction v payload i lent =
     provided (ltb i count) 15 (provided (leb size lent) 14 (given (record { length = size; parts = count })))
 
 -- "The answer for part i, counted from 0, is its octets, its length and the number of parts": here the latter two, or the first of the
--- refusals 11, 12, 13, 15 and 14 that applies
-unfoldable pub split-of : Record → ℕ → ℕ → ℕ → Answer Extent
-split-of r payload i lent =
-    provided (known (r .kind)) 11
+-- refusals 11, 12, 13, 15 and 14 that applies; by a record's kind, groups, direction and wire numbers
+unfoldable pub split-wire : ℕ → ℕ → ℕ → List ℕ → ℕ → ℕ → ℕ → Answer Extent
+split-wire kind groups direction v payload i lent =
+    provided (known kind) 11
     (provided (payload-known payload) 12
-    (provided (well-formed r) 13 (extent-of (r .kind) (r .groups) (r .direction) (wire r) payload i lent)))
+    (provided (formed kind groups direction v) 13 (extent-of kind groups direction v payload i lent)))
+
+-- and of a record
+abbrev pub split-of : Record → ℕ → ℕ → ℕ → Answer Extent
+split-of r payload i lent = split-wire (r .kind) (r .groups) (r .direction) (wire r) payload i lent
 
 -- the lent octets afterwards: the part's, and past its length those that were lent
 abbrev pub lent-after : Record → ℕ → ℕ → List ℕ → List ℕ

@@ -27,7 +27,7 @@ ghost use Rattle.record.specs.Layout.{octets-of, layout};
 ghost use Rattle.record.specs.Groups.{has as Groups·has, named, flags-octets};
 ghost use Rattle.record.specs.Octets.{spelled, placed, over};
 ghost use Rattle.record.specs.Answer.{after};
-ghost use Rattle.record.specs.Split.{meant, payload-known, run as Split·run, cut, written, flags, octets as Split·octets, set-at, extent-of, split-of, lent-after};
+ghost use Rattle.record.specs.Split.{meant, payload-known, run as Split·run, cut, written, flags, octets as Split·octets, set-at, extent-of, split-wire, split-of, lent-after};
 
 // "12: payload not 20 to 512".
 pub const LEAST_PAYLOAD: usize = 20;
@@ -163,7 +163,7 @@ fn put_part(kind: u8, set: u32, direction: u8, numbers: &[u32; 31], out: &mut [u
 }
 
 // Writes a part of a record that is well formed, at a payload that is in range: refusals 15, then 14.
-fn split_numbers(
+fn write_part(
     kind: u8,
     groups: u32,
     direction: u8,
@@ -191,24 +191,45 @@ fn split_numbers(
     SplitAnswer::Part(Extent { length, parts })
 }
 
-// A part of a record, counted from 0, at a payload: its octets in the lent buffer, its length and the number of parts, or the first of the
-// refusals 11, 12, 13, 15 and 14 that applies, which writes nothing.
-pub fn split(record: Record, payload: usize, part: usize, out: &mut [u8]) -> SplitAnswer
-    ensures { λ r. ⌜ meant r ≡ split-of «record» payload part (length (now (out .entry))) ⌝ }
-    ensures { λ r. ⌜ now (out .exit) ≡ lent-after «record» payload part (now (out .entry)) ⌝ }
+// A part of the record with these wire numbers: as `split`, for a caller that has the numbers.
+pub fn split_numbers(
+    kind: u8,
+    groups: u32,
+    direction: u8,
+    numbers: &[u32; 31],
+    payload: usize,
+    part: usize,
+    out: &mut [u8],
+) -> SplitAnswer
+    ensures { λ r. ⌜ meant r ≡ split-wire kind groups direction (now (numbers .entry)) payload part (length (now (out .entry))) ⌝ }
+    ensures { λ r. ⌜ now (out .exit) ≡ after (split-wire kind groups direction (now (numbers .entry)) payload part (length (now (out .entry)))) (over (now (out .entry)) (Split·octets kind (set-at kind groups payload part) direction (now (numbers .entry)))) (now (out .entry)) ⌝ }
 {
-    let kind = record.kind;
     if !is_known(kind) {
         return SplitAnswer::Refused(Refusal::UnknownKind);
     }
     if !is_payload(payload) {
         return SplitAnswer::Refused(Refusal::PayloadOutOfRange);
     }
-    let numbers = numbers_of(record);
-    let groups = record.groups;
-    let direction = record.direction;
-    if !formed(kind, groups, direction, &numbers) {
+    if !formed(kind, groups, direction, numbers) {
         return SplitAnswer::Refused(Refusal::NotWellFormed);
     }
-    split_numbers(kind, groups, direction, &numbers, payload, part, out)
+    write_part(kind, groups, direction, numbers, payload, part, out)
+}
+
+// A part of a record, counted from 0, at a payload: its octets in the lent buffer, its length and the number of parts, or the first of the
+// refusals 11, 12, 13, 15 and 14 that applies, which writes nothing.
+pub fn split(record: Record, payload: usize, part: usize, out: &mut [u8]) -> SplitAnswer
+    ensures { λ r. ⌜ meant r ≡ split-of «record» payload part (length (now (out .entry))) ⌝ }
+    ensures { λ r. ⌜ now (out .exit) ≡ lent-after «record» payload part (now (out .entry)) ⌝ }
+{
+    let numbers = numbers_of(record);
+    split_numbers(
+        record.kind,
+        record.groups,
+        record.direction,
+        &numbers,
+        payload,
+        part,
+        out,
+    )
 }
