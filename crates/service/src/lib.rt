@@ -1,2 +1,3 @@
-// The collector.
+// The service layer, above the record layer and on its promise alone.
 pub mod collector;
+pub mod control;

@@ -1,0 +1,96 @@
+-- No second reply and no second state meets a contract: for each public function, over the contract itself.
+use Prim.Native.Nat.{ℕ}
+use mathlib.Core.Path.{_≡_, refl, sym, ap, _∙_}
+use mathlib.Core.List.{List}
+use native.Mathlib.Omega.{arith}
+use Rattle.record.specs.Answer.{Answer, refused, given}
+use Rattle.record.specs.Refusal.{number-of}
+use Rattle.record.proofs.RefusalLaws.{number-once}
+use Rattle.service.specs.declared.control.machine.Machine.{Machine}
+use Rattle.service.specs.declared.control.Outcome.{Outcome}
+use Rattle.service.specs.declared.control.Outcome.the-variants.{Done, Refused}
+use Rattle.service.specs.declared.control.Opened.{Opened}
+use Rattle.service.specs.declared.control.Moved.{Moved}
+use Rattle.service.specs.declared.control.Written.{Written}
+use Rattle.service.specs.Control.Replies.{Reply, meant-outcome, meant-opening, meant-moved, Opens, Says}
+use Rattle.service.proofs.control.open.Reads as opens
+use Rattle.service.proofs.control.connect.Reads as connect
+use Rattle.service.proofs.control.disconnect.Reads as disconnect
+use Rattle.service.proofs.control.indicate.Reads as indicate
+use Rattle.service.proofs.control.confirm.Reads as confirm
+use Rattle.service.proofs.control.write.Reads as write
+use Rattle.service.proofs.control.setting.Reads as setting
+use Rattle.service.proofs.control.holder.Reads as holder
+use Rattle.service.proofs.control.mode.Reads as mode
+use Rattle.service.proofs.control.awaited.Reads as awaited
+use Rattle.service.proofs.control.op_codes.row_of.Reads as row-of
+
+module _ {K : Type 0} {A R S : K → Type 0} (Post : (κs : K) → A κs → R κs → S κs → Type 0) where
+  -- two replies that meet a contract at the same arguments are one
+  abbrev pub Once : Type 0
+  Once = (κs : K) (a : A κs) (x y : R κs) (s t : S κs) → Post κs a x s → Post κs a y t → x ≡ y
+
+-- ---- the meaning of an answer is the answer
+
+same : {A : Type 0} {x y z : A} → x ≡ z → y ≡ z → x ≡ y
+same p q = p ∙ sym q
+
+number-same : {A : Type 0} (a b : ℕ) → _≡_ {A = Answer A} (refused a) (refused b) → a ≡ b
+number-same a b e = cc
+
+never : {A : Type 0} (a : A) (n : ℕ) → _≡_ {A = Answer A} (given a) (refused n) → ⊥
+never a n e = let z : _≡_ {A = ℕ} 0 1 = cc in omega arith
+
+outcome-meant : (x y : Outcome) (r s u v : List ℕ) → meant-outcome x r s ≡ meant-outcome y u v → x ≡ y
+outcome-meant Done Done r s u v e = refl
+outcome-meant Done (Refused b) r s u v e = absurd (never _ (number-of b) e)
+outcome-meant (Refused a) Done r s u v e = absurd (never _ (number-of a) (sym e))
+outcome-meant (Refused a) (Refused b) r s u v e = ap Refused (number-once a b (number-same (number-of a) (number-of b) e))
+
+opening-meant : (x y : Outcome) (m n : Machine) → meant-opening x m ≡ meant-opening y n → x ≡ y
+opening-meant Done Done m n e = refl
+opening-meant Done (Refused b) m n e = absurd (never m (number-of b) e)
+opening-meant (Refused a) Done m n e = absurd (never n (number-of a) (sym e))
+opening-meant (Refused a) (Refused b) m n e = ap Refused (number-once a b (number-same (number-of a) (number-of b) e))
+
+pub moved-meant : (x y : Moved) → meant-moved x ≡ meant-moved y → x ≡ y
+moved-meant x y e =
+    let o : x .outcome ≡ y .outcome = outcome-meant (x .outcome) (y .outcome) _ _ _ _ (ap (λ (z : Answer Reply × Machine). z .0) e) in
+    λ i. record { outcome = o i; machine = e i .1 }
+
+pub opened-meant : (x y : Opened) (z : Answer Machine) → Opens x z → Opens y z → x ≡ y
+opened-meant x y z p q =
+    let o : x .outcome ≡ y .outcome = opening-meant (x .outcome) (y .outcome) (x .machine) (y .machine) (same (p .means) (q .means)) in
+    λ i. record { outcome = o i; machine = same (p .machine-rest) (q .machine-rest) i }
+
+pub written-meant : (x y : Written) (z : Answer Reply × Machine) → Says x z → Says y z → x ≡ y
+written-meant x y z p q =
+    let e : meant-outcome (x .outcome) (x .response) _ ≡ meant-outcome (y .outcome) (y .response) _ =
+    ap (λ (z : Answer Reply × Machine). z .0) (same (p .means) (q .means)) in
+    let o : x .outcome ≡ y .outcome = outcome-meant (x .outcome) (y .outcome) _ _ _ _ e in
+    λ i. record {
+      outcome = o i;
+      response = same (p .response-rest) (q .response-rest) i;
+      status = same (p .status-rest) (q .status-rest) i;
+      machine = same (p .means) (q .means) i .1;
+    }
+
+-- ---- each public function
+
+pub open-once : Once opens.Post
+open-once κs a x y s t p q = opened-meant x y _ p q
+
+pub calls-once : Once connect.Post × Once disconnect.Post × Once indicate.Post × Once confirm.Post
+calls-once = (
+  λ κs a x y s t p q. moved-meant x y (same p q),
+  λ κs a x y s t p q. moved-meant x y (same p q),
+  λ κs a x y s t p q. moved-meant x y (same p q),
+  λ κs a x y s t p q. moved-meant x y (same p q),
+)
+
+pub write-once : Once write.Post
+write-once κs a x y s t p q = written-meant x y _ p q
+
+pub readings-once : Once setting.Post × Once holder.Post × Once mode.Post × Once awaited.Post × Once row-of.Post
+readings-once =
+    (λ κs a x y s t. same, λ κs a x y s t. same, λ κs a x y s t. same, λ κs a x y s t. same, λ κs a x y s t. same)
