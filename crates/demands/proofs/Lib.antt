@@ -13,3 +13,4 @@ pub mod Contracts
 pub mod Equal
 pub mod ComingBack
 pub mod DemandsOnce
+pub mod AllCases

@@ -1,2 +1,3 @@
 pub mod Behaviour
 pub mod Demands
+pub mod Cases
