@@ -1,8 +1,13 @@
 #!/usr/bin/env python3
-"""Prints what crates/vectors must print: the run cases of the record layer, from document 01's words and tables alone.
+"""Prints what crates/vectors must print: the run cases of the record layer and of the collector, from document 01's words and tables alone.
 
     python3 tools/vectors.py > crates/vectors/stdout
 """
+import sys
+
+sys.dont_write_bytecode = True
+
+from collecting import COLLECTIONS, OPENINGS
 
 # "E is energy: total u16, per hour u16, per minute u8. H heart rate u8, M metabolic equivalent u8, T elapsed u16, R remaining u16."
 E = "total_energy u16, energy_per_hour u16, energy_per_minute u8"
@@ -183,20 +188,20 @@ def read_case(words, kind, octets):
 
 
 def read_cases():
-    read_case("one octet", 6, bytes.fromhex("44"))
-    read_case("two octets of three flags", 2, bytes.fromhex("00 80"))
-    read_case("no octets", 1, b"")
-    read_case("cut short", 6, bytes.fromhex("44 00 C4"))
-    read_case("513 octets", 6, bytes(513))
-    read_case("512 octets", 6, bytes(512))
     read_case("kind 0", 0, bytes(2))
     read_case("kind 7", 7, bytes(2))
+    read_case("no octets", 1, b"")
+    read_case("two octets of three flags", 2, bytes.fromhex("00 80"))
+    read_case("plain", 2, bytes.fromhex("00 81 00 C4 09 85 FF"))
+    read_case("both", 2, bytes.fromhex("00 81 FF C4 09 85 FF 01 02 03"))
+    read_case("one octet", 6, bytes.fromhex("44"))
+    read_case("cut short", 6, bytes.fromhex("44 00 C4"))
     read_case("plain", 6, bytes.fromhex("44 00 C4 09 B4 00 FA 00"))
     read_case("reserved bits", 6, bytes.fromhex("44 E0 C4 09 B4 00 FA 00"))
     read_case("octets after", 6, bytes.fromhex("44 00 C4 09 B4 00 FA 00 01 02 03"))
     read_case("both", 6, bytes.fromhex("44 E0 C4 09 B4 00 FA 00 01 02 03"))
-    read_case("plain", 2, bytes.fromhex("00 81 00 C4 09 85 FF"))
-    read_case("both", 2, bytes.fromhex("00 81 FF C4 09 85 FF 01 02 03"))
+    read_case("513 octets", 6, bytes(513))
+    read_case("512 octets", 6, bytes(512))
 
 
 def split_case(words, kind, groups, direction, payload=20, part=0, room=64, **changed):
@@ -271,6 +276,80 @@ def plain_cases():
     feature_case(bytes(9))
 
 
+def opening(kind, told):
+    """"Opening a collection 11, 35": a refusal's number, or none. An open collection is told nothing."""
+    if kind not in KINDS:
+        return 11
+    return 35 if told is not None and told & ~all_groups(kind) else None
+
+
+def collect(kind, told, held, octets):
+    """The answer to a notification, whether held groups were dropped unused, and what is held after it: for each bit, its group's values."""
+    answer = read(kind, octets)  # 30 to 32, and rule 1
+    if isinstance(answer, int):
+        return answer, held != {}, {}
+    groups, last, direction, values = answer
+    its = {bit: [values[name] for name, _ in KINDS[kind][bit]] for bit in bits_of(groups)}
+    if told is not None and groups & ~told:
+        return 33, held != {}, {}
+    if told is None:  # rule 2
+        drops = any(bit in held for bit in its)
+    else:
+        drops = its != {} and held != {} and not min(its) > max(held)
+    joined = its if drops else {**held, **its}  # rule 3
+    if not last:
+        return "waiting", drops, joined
+    if told is not None and set(joined) != set(bits_of(told)):  # rule 4
+        return 34, held != {}, {}
+    joined[0] = [values[name] for name, _ in KINDS[kind][0]]
+    return (joined, direction), drops, {}
+
+
+def answered(kind, answer, dropped):
+    """An answer in short and in full."""
+    word = " dropped" if dropped else ""
+    if answer == "waiting":
+        short, said = answer, answer
+    elif isinstance(answer, int):
+        short, said = str(answer), f"refused={answer}"
+    else:
+        joined, direction = answer
+        groups = sum(1 << bit for bit in joined if bit)
+        fields = fields_of(kind, sorted(joined))
+        numbers = [x for bit in sorted(joined) for x in joined[bit]]
+        formed = well_formed(kind, groups, direction, {name: x for (name, _), x in zip(fields, numbers)})
+        wire = "".join(f" {int.from_bytes(spelled(x, OCTETS[width]), 'little')}" for (_, width), x in zip(fields, numbers))
+        short = f"record {groups}" + (" backward" if direction else "")
+        said = f"record kind={kind} groups={groups} direction={direction} numbers:{wire} formed={'yes' if formed else 'no'}"
+    return short + word, f"{said} dropped={'yes' if dropped else 'no'}"
+
+
+def collection_case(words, kind, told, notifications=(), worked=""):
+    """A collection and its notifications, each held to the answer that was worked out by hand."""
+    refusal = opening(kind, told)
+    said = f"refused={refusal}" if refusal else "opened"
+    print(f"{words}: kind={kind} {'open' if told is None else f'told={told}'} {said}")
+    held, shorts = {}, []
+    for octets in notifications:
+        answer, dropped, held = collect(kind, told, held, octets)
+        short, said = answered(kind, answer, dropped)
+        shorts.append(short)
+        print(f"length={len(octets)}:{hexed(octets[:20])} {said}")
+    assert ", ".join(shorts) == worked, (words, shorts)
+
+
+def collection_cases():
+    print("collections")
+    for words, kind, told in OPENINGS:
+        collection_case(words, kind, told)
+    for kind, told, cases in COLLECTIONS:
+        for words, text, worked in cases:
+            collection_case(words, kind, told, [bytes.fromhex(octets) for octets in text.split("/")], worked)
+    held, rest = bytes.fromhex("03 00 E8 03"), bytes.fromhex("0C 00 C4 09 B4 00 B6 00")
+    collection_case("30 before 33", 6, 14, [held, bytes([0xFF]) * 513, rest], "waiting, 30 dropped, 34")
+    collection_case("512 octets", 6, None, [bytes(512)], "record 0")
+
+
 def main():
     print("values=least")
     run_kinds(LEAST)
@@ -283,6 +362,7 @@ def main():
     print("splits")
     split_cases()
     plain_cases()
+    collection_cases()
 
 
 main()

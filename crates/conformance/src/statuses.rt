@@ -12,8 +12,13 @@ fn run(case: &[u8], machine: Machine, sent: &[u8], status: &[u8]) {
     finish(exchange(b, sent, 0x01, status), b"");
 }
 
+// A write by a client that holds control, to a machine that is stopped.
+fn grant(case: &[u8], sent: &[u8], status: &[u8]) {
+    run(case, holding(), sent, status);
+}
+
 fn run_modes() {
-    run(b"FMSN/BV-01-C", holding(), b"\x01", b"\x01");
+    grant(b"FMSN/BV-01-C", b"\x01", b"\x01");
     run(b"FMSN/BV-02-C", running(), b"\x08\x01", b"\x02\x01");
     run(b"FMSN/BV-03-C", running(), b"\x08\x02", b"\x02\x02");
     run(b"FMSN/BV-05-C", paused(), b"\x07", b"\x04");
@@ -27,27 +32,27 @@ fn run_wide_resistance() {
 }
 
 fn run_targets() {
-    run(b"FMSN/BV-06-C", holding(), b"\x02\x88\x13", b"\x05\x88\x13");
-    run(b"FMSN/BV-07-C", holding(), b"\x03\x0A\x00", b"\x06\x0A\x00");
-    run(b"FMSN/BV-08-C", holding(), b"\x04\x32", b"\x07\x32");
+    grant(b"FMSN/BV-06-C", b"\x02\x88\x13", b"\x05\x88\x13");
+    grant(b"FMSN/BV-07-C", b"\x03\x0A\x00", b"\x06\x0A\x00");
+    grant(b"FMSN/BV-08-C", b"\x04\x32", b"\x07\x32");
     run_wide_resistance();
-    run(b"FMSN/BV-09-C", holding(), b"\x05\x64\x00", b"\x08\x64\x00");
-    run(b"FMSN/BV-10-C", holding(), b"\x06\x87", b"\x09\x87");
-    run(b"FMSN/BV-11-C", holding(), b"\x09\xF4\x01", b"\x0A\xF4\x01");
-    run(b"FMSN/BV-12-C", holding(), b"\x0A\xD0\x07", b"\x0B\xD0\x07");
-    run(b"FMSN/BV-13-C", holding(), b"\x0B\xD0\x07", b"\x0C\xD0\x07");
+    grant(b"FMSN/BV-09-C", b"\x05\x64\x00", b"\x08\x64\x00");
+    grant(b"FMSN/BV-10-C", b"\x06\x87", b"\x09\x87");
+    grant(b"FMSN/BV-11-C", b"\x09\xF4\x01", b"\x0A\xF4\x01");
+    grant(b"FMSN/BV-12-C", b"\x0A\xD0\x07", b"\x0B\xD0\x07");
+    grant(b"FMSN/BV-13-C", b"\x0B\xD0\x07", b"\x0C\xD0\x07");
     run(
         b"FMSN/BV-14-C",
         holding(),
         b"\x0C\x88\x13\x00",
         b"\x0D\x88\x13\x00",
     );
-    run(b"FMSN/BV-15-C", holding(), b"\x0D\x10\x0E", b"\x0E\x10\x0E");
+    grant(b"FMSN/BV-15-C", b"\x0D\x10\x0E", b"\x0E\x10\x0E");
 }
 
 fn run_arrays() {
     let two = b"\x0E\x08\x07\x08\x07";
-    run(b"FMSN/BV-16-C", holding(), two, b"\x0F\x08\x07\x08\x07");
+    grant(b"FMSN/BV-16-C", two, b"\x0F\x08\x07\x08\x07");
     let three = b"\x0F\xF4\x01\x58\x02\x08\x07";
     run(
         b"FMSN/BV-17-C",
@@ -69,8 +74,8 @@ fn run_arrays() {
         simulation,
         b"\x12\x10\x27\xF4\x01\x01\x64",
     );
-    run(b"FMSN/BV-20-C", holding(), b"\x12\xC8\x00", b"\x13\xC8\x00");
-    run(b"FMSN/BV-22-C", holding(), b"\x14\xC8\x00", b"\x15\xC8\x00");
+    grant(b"FMSN/BV-20-C", b"\x12\xC8\x00", b"\x13\xC8\x00");
+    grant(b"FMSN/BV-22-C", b"\x14\xC8\x00", b"\x15\xC8\x00");
 }
 
 pub(crate) fn run_all() {

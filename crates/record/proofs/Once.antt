@@ -67,16 +67,16 @@ module _ {K : Type 0} {A R S : K → Type 0} (Post : (κs : K) → A κs → R �
 
 -- ---- the meaning of an answer is the answer
 
-same : {A : Type 0} {x y z : A} → x ≡ z → y ≡ z → x ≡ y
+pub same : {A : Type 0} {x y z : A} → x ≡ z → y ≡ z → x ≡ y
 same p q = p ∙ sym q
 
-number-same : {A : Type 0} (a b : ℕ) → _≡_ {A = Answer A} (refused a) (refused b) → a ≡ b
+pub number-same : {A : Type 0} (a b : ℕ) → _≡_ {A = Answer A} (refused a) (refused b) → a ≡ b
 number-same a b e = cc
 
-value-same : {A : Type 0} (a b : A) → _≡_ {A = Answer A} (given a) (given b) → a ≡ b
+pub value-same : {A : Type 0} (a b : A) → _≡_ {A = Answer A} (given a) (given b) → a ≡ b
 value-same a b e = cc
 
-never : {A : Type 0} (a : A) (n : ℕ) → _≡_ {A = Answer A} (given a) (refused n) → ⊥
+pub never : {A : Type 0} (a : A) (n : ℕ) → _≡_ {A = Answer A} (given a) (refused n) → ⊥
 never a n e = let z : _≡_ {A = ℕ} 0 1 = cc in omega arith
 
 feature-meant : (x y : FeatureAnswer) → Feature.meant x ≡ Feature.meant y → x ≡ y

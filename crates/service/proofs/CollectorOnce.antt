@@ -4,10 +4,8 @@ use mathlib.Core.Path.{_≡_, refl, sym, ap, ap₂, _∙_}
 use mathlib.Core.Bool.{Bool}
 use native.Mathlib.Omega.{arith}
 use Rattle.record.specs.declared.record.Record.{Record}
-use Rattle.record.specs.Answer.{Answer, given}
 use Rattle.record.specs.Refusal.{number-of}
-use Rattle.record.specs.Answer as Answer
-use Rattle.record.proofs.Once.{Once}
+use Rattle.record.proofs.Once.{Once, number-same, never}
 use Rattle.record.proofs.RefusalLaws.{number-once}
 use Rattle.service.specs.declared.collector.Collection.{Collection}
 use Rattle.service.specs.declared.collector.Collected.{Collected}
@@ -63,18 +61,12 @@ collect-once κs a x y s t p q =
     let e : x .answer ≡ y .answer = collected-meant (x .answer) (y .answer) (p .0 ∙ sym (q .0)) in
     let n : x .next ≡ y .next = p .1 ∙ sym (q .1) in λ i. record { answer = e i; next = n i }
 
-never : (c : Collection) (n : ℕ) → _≡_ {A = Answer Collection} (given c) (Answer.refused n) → ⊥
-never c n e = let z : _≡_ {A = ℕ} 0 1 = cc in omega arith
-
-same-refusal : (m n : ℕ) → _≡_ {A = Answer Collection} (Answer.refused m) (Answer.refused n) → m ≡ n
-same-refusal m n e = cc
-
 opening-meant : (a b : Opening) (c d : Collection) →
     meant-opening (record { answer = a; collection = c }) ≡ meant-opening (record { answer = b; collection = d }) → a ≡ b
 opening-meant openings.Opened openings.Opened c d e = refl
 opening-meant openings.Opened (openings.Refused n) c d e = absurd (never c (number-of n) e)
 opening-meant (openings.Refused m) openings.Opened c d e = absurd (never d (number-of m) (sym e))
-opening-meant (openings.Refused m) (openings.Refused n) c d e = ap openings.Refused (number-once m n (same-refusal (number-of m) (number-of n) e))
+opening-meant (openings.Refused m) (openings.Refused n) c d e = ap openings.Refused (number-once m n (number-same (number-of m) (number-of n) e))
 
 pub open-once : Once open-reads.Post
 open-once κs a x y s t p q =

@@ -1,13 +1,17 @@
-// The run cases of the record layer: records in parts and back, refusals, numbers and the Feature value. What is printed is held to the file
-// `stdout`, which tools/vectors.py writes from document 01 alone.
+// The run cases of the record layer and the collector: records in parts and back, refusals, numbers, the Feature value, and collections. What is
+// printed is held to the file `stdout`, which tools/vectors.py writes from document 01 alone.
+mod collections;
+mod lines;
 mod plain;
 mod refusals;
 mod runs;
 mod samples;
+mod steps;
 mod text;
 
 fn main() {
     runs::run_all();
     refusals::run_all();
     plain::run_all();
+    collections::run_all();
 }

@@ -1,4 +1,6 @@
 // What is refused, by which number, and what is left as it was.
+use crate::lines::By;
+use crate::lines::run_lines;
 use crate::runs::print_record;
 use crate::runs::same_numbers;
 use crate::samples::Values;
@@ -56,8 +58,7 @@ fn print_values(r: Record) {
 }
 
 // Reads a notification where every number held is 7.
-fn read_case(words: &[u8], kind: u8, notification: &[u8]) {
-    print(words);
+pub fn read_case(kind: u8, notification: &[u8]) {
     print_number(b": kind=", kind as u64);
     print_number(b" length=", notification.len() as u64);
     let mut held = [7u32; 31];
@@ -70,31 +71,39 @@ fn read_case(words: &[u8], kind: u8, notification: &[u8]) {
     }
 }
 
-fn read_cases() {
+fn long_cases() {
     let long = [0u8; 513];
     let longest = [0u8; 512];
-    read_case(b"one octet", 6, b"\x44");
-    read_case(b"two octets of three flags", 2, b"\x00\x80");
-    read_case(b"no octets", 1, b"");
-    read_case(b"cut short", 6, b"\x44\x00\xC4");
-    read_case(b"513 octets", 6, &long);
-    read_case(b"512 octets", 6, &longest);
-    read_case(b"kind 0", 0, b"\x00\x00");
-    read_case(b"kind 7", 7, b"\x00\x00");
+    print(b"513 octets");
+    read_case(6, &long);
+    print(b"512 octets");
+    read_case(6, &longest);
 }
 
 // "All other bits are reserved: written 0, ignored when read." "Octets after the last named group are ignored."
-fn ignored_cases() {
-    read_case(b"plain", 6, b"\x44\x00\xC4\x09\xB4\x00\xFA\x00");
-    read_case(b"reserved bits", 6, b"\x44\xE0\xC4\x09\xB4\x00\xFA\x00");
-    read_case(
-        b"octets after",
-        6,
-        b"\x44\x00\xC4\x09\xB4\x00\xFA\x00\x01\x02\x03",
+fn read_cases() {
+    run_lines(0, By::Reading, b"kind 0: 00 00\n");
+    run_lines(7, By::Reading, b"kind 7: 00 00\n");
+    run_lines(1, By::Reading, b"no octets:\n");
+    run_lines(
+        2,
+        By::Reading,
+        b"two octets of three flags: 00 80
+plain: 00 81 00 C4 09 85 FF
+both: 00 81 FF C4 09 85 FF 01 02 03
+",
     );
-    read_case(b"both", 6, b"\x44\xE0\xC4\x09\xB4\x00\xFA\x00\x01\x02\x03");
-    read_case(b"plain", 2, b"\x00\x81\x00\xC4\x09\x85\xFF");
-    read_case(b"both", 2, b"\x00\x81\xFF\xC4\x09\x85\xFF\x01\x02\x03");
+    run_lines(
+        6,
+        By::Reading,
+        b"one octet: 44
+cut short: 44 00 C4
+plain: 44 00 C4 09 B4 00 FA 00
+reserved bits: 44 E0 C4 09 B4 00 FA 00
+octets after: 44 00 C4 09 B4 00 FA 00 01 02 03
+both: 44 E0 C4 09 B4 00 FA 00 01 02 03
+",
+    );
 }
 
 // Splits into the first octets of a buffer.
@@ -218,7 +227,7 @@ fn order_cases() {
 pub fn run_all() {
     print(b"notifications\n");
     read_cases();
-    ignored_cases();
+    long_cases();
     print(b"splits\n");
     range_cases();
     form_cases();

@@ -94,7 +94,7 @@ const OWN: Record = Record {
     average_cadence: 1031,
 };
 
-fn number_at(numbers: &[u32; 31], field: u8) -> u32 {
+pub fn number_at(numbers: &[u32; 31], field: u8) -> u32 {
     let i = field as usize;
     if i < 31 {
         return numbers[i];
@@ -118,9 +118,14 @@ fn value(values: Values, row: Row, own: &[u32; 31]) -> u32 {
     }
 }
 
-// Puts the value of a row, where its group is present: bit 0, the main one, always is.
+// Whether a row's group is present: bit 0, the main one, always is.
+pub fn is_present(row: Row, groups: u32) -> bool {
+    row.0 == 0 || has(groups, row.0)
+}
+
+// Puts the value of a row, where its group is present.
 fn fill_row(values: Values, row: Row, groups: u32, own: &[u32; 31], numbers: &mut [u32; 31]) {
-    if row.0 == 0 || has(groups, row.0) {
+    if is_present(row, groups) {
         put_number(numbers, row.1, value(values, row, own));
     }
 }

@@ -68,6 +68,16 @@ pub fn first(buffer: &[u8], length: usize) -> &[u8] {
     &buffer[0..length]
 }
 
+// The octets from a place up to another; all of them, where there are no such places.
+pub fn between(text: &[u8], start: usize, end: usize) -> &[u8] {
+    if start <= end {
+        if end <= text.len() {
+            return &text[start..end];
+        }
+    }
+    text
+}
+
 // Whether every octet from a place on is as it was lent.
 pub fn is_untouched(buffer: &[u8], from: usize) -> bool {
     let mut i = from;

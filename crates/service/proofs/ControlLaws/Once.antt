@@ -2,9 +2,9 @@
 use Prim.Native.Nat.{ℕ}
 use mathlib.Core.Path.{_≡_, refl, sym, ap, _∙_}
 use mathlib.Core.List.{List}
-use native.Mathlib.Omega.{arith}
-use Rattle.record.specs.Answer.{Answer, refused, given}
+use Rattle.record.specs.Answer.{Answer}
 use Rattle.record.specs.Refusal.{number-of}
+use Rattle.record.proofs.Once.{Once, same, number-same, never}
 use Rattle.record.proofs.RefusalLaws.{number-once}
 use Rattle.service.specs.declared.control.machine.Machine.{Machine}
 use Rattle.service.specs.declared.control.Outcome.{Outcome}
@@ -25,21 +25,7 @@ use Rattle.service.proofs.control.mode.Reads as mode
 use Rattle.service.proofs.control.awaited.Reads as awaited
 use Rattle.service.proofs.control.op_codes.row_of.Reads as row-of
 
-module _ {K : Type 0} {A R S : K → Type 0} (Post : (κs : K) → A κs → R κs → S κs → Type 0) where
-  -- two replies that meet a contract at the same arguments are one
-  abbrev pub Once : Type 0
-  Once = (κs : K) (a : A κs) (x y : R κs) (s t : S κs) → Post κs a x s → Post κs a y t → x ≡ y
-
 -- ---- the meaning of an answer is the answer
-
-same : {A : Type 0} {x y z : A} → x ≡ z → y ≡ z → x ≡ y
-same p q = p ∙ sym q
-
-number-same : {A : Type 0} (a b : ℕ) → _≡_ {A = Answer A} (refused a) (refused b) → a ≡ b
-number-same a b e = cc
-
-never : {A : Type 0} (a : A) (n : ℕ) → _≡_ {A = Answer A} (given a) (refused n) → ⊥
-never a n e = let z : _≡_ {A = ℕ} 0 1 = cc in omega arith
 
 outcome-meant : (x y : Outcome) (r s u v : List ℕ) → meant-outcome x r s ≡ meant-outcome y u v → x ≡ y
 outcome-meant Done Done r s u v e = refl
