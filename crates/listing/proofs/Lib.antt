@@ -1,0 +1,5 @@
+pub mod Writing
+pub mod Rows
+pub mod Partly
+pub mod Walked
+pub mod Measured

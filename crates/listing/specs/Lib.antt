@@ -1,0 +1,5 @@
+pub mod Text
+pub mod Names
+pub mod Lines
+pub mod Listing
+pub mod Samples

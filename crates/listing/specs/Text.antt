@@ -1,0 +1,56 @@
+-- Text, and text put into a lent buffer.
+use Prim.Native.Nat.{ℕ, zero, suc, _+_, _/_, _%_, _≤_, min}
+use Prim.Native.Char.{code}
+use Prim.Native.String.{String, [], _∷_}
+use mathlib.Core.Path.{_≡_, refl}
+use mathlib.Core.Bool.{cond}
+use mathlib.Core.List as L
+use mathlib.Core.List.{List, _++_}
+use lib.Dec.{ltb}
+use lib.IntN.{ℤ, pos, negsuc}
+use lib.ListN.{length, take, drop}
+
+-- the octets of a text
+abbrev pub ascii : String → List ℕ
+ascii [] = L.[]
+ascii (c ∷ s) = L._∷_ (code c) (ascii s)
+
+-- the digits of n, with fuel for as many as it may have
+abbrev pub digits : ℕ → ℕ → List ℕ
+digits zero n = L.[]
+digits (suc k) n =
+    let front : List ℕ = digits k (n / 10) in
+    cond (ltb n 10) L.[] front ++ (L._∷_ (48 + n % 10) L.[])
+
+-- "a bare decimal number"
+unfoldable pub decimal : ℕ → List ℕ
+decimal n = digits (suc n) n
+
+-- "Numbers print as they stand, negative ones after `-`."
+unfoldable pub integer : ℤ → List ℕ
+integer (pos n) = decimal n
+integer (negsuc n) = L._∷_ 45 (decimal (suc n))
+
+-- a line: a key with its `=`, a value, and LF
+unfoldable pub line : List ℕ → List ℕ → List ℕ
+line key value = key ++ value ++ (L._∷_ 10 L.[])
+
+-- a buffer with a text put at a position; what passes the buffer's end is left out
+unfoldable pub written : List ℕ → ℕ → List ℕ → List ℕ
+written out at text = take (length out) (take at out ++ text ++ drop (at + length text) out)
+
+-- the largest number of a usize, at which a position stays
+abbrev pub top : ℕ
+top = 18446744073709551615
+
+-- a text was put at a position of a buffer, and the next position is behind it; no buffer is longer than `top`
+pub record Wrote (out : List ℕ) (at : ℕ) (text : List ℕ) (out′ : List ℕ) (next : ℕ) : Type 0 where
+  pub octets : out′ ≡ written out at text
+  pub place : next ≡ min (at + length text) top
+  pub short : length out ≤ top
+
+-- no leading zeros, and both ends of each width
+pub ends : (decimal 0 ≡ ascii "0") × (decimal 255 ≡ ascii "255") × (decimal 65535 ≡ ascii "65535") × (decimal 16777215 ≡ ascii "16777215")
+    × (integer (negsuc 32767) ≡ ascii "-32768") × (integer (negsuc 0) ≡ ascii "-1") × (integer (pos 0) ≡ ascii "0") × (integer (pos 32767) ≡ ascii "32767")
+unfolding decimal integer
+ends = (refl, refl, refl, refl, refl, refl, refl, refl)
