@@ -3,3 +3,4 @@ pub mod Rows
 pub mod Partly
 pub mod Walked
 pub mod Measured
+pub mod ListingOnce
