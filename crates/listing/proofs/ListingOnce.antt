@@ -1,11 +1,8 @@
 -- No second reply, state or lent content meets the contracts of the listing.
-use Prim.Native.Nat.{ℕ}
 use mathlib.Core.Path.{_≡_, sym, ap, _∙_}
-use native.Mathlib.Omega.{arith}
 use denote.Ref.{now}
-use Rattle.record.specs.Answer.{Answer, given, refused}
 use Rattle.record.specs.Refusal.{number-of}
-use Rattle.record.proofs.Once.{Once, LeftOnce}
+use Rattle.record.proofs.Once.{Once, LeftOnce, number-same, value-same, never}
 use Rattle.record.proofs.RefusalLaws.{number-once}
 use Rattle.listing.specs.declared.capture.ListAnswer.{ListAnswer}
 use Rattle.listing.specs.declared.capture.ListAnswer.the-variants.{Listed, Refused}
@@ -17,20 +14,11 @@ use Rattle.listing.proofs.capture.start.Reads as start
 use Rattle.listing.proofs.lines.put_record.Reads as put-record
 use Rattle.listing.proofs.lines.put_refused.Reads as put-refused
 
-same-length : (m n : ℕ) → _≡_ {A = Answer ℕ} (given m) (given n) → m ≡ n
-same-length m n e = cc
-
-same-refusal : (m n : ℕ) → _≡_ {A = Answer ℕ} (refused m) (refused n) → m ≡ n
-same-refusal m n e = cc
-
-never : (m n : ℕ) → _≡_ {A = Answer ℕ} (given m) (refused n) → ⊥
-never m n e = let z : _≡_ {A = ℕ} 0 1 = cc in omega arith
-
 list-meant : (x y : ListAnswer) → meant x ≡ meant y → x ≡ y
-list-meant (Listed m) (Listed n) e = ap Listed (same-length m n e)
+list-meant (Listed m) (Listed n) e = ap Listed (value-same m n e)
 list-meant (Listed m) (Refused n) e = absurd (never m (number-of n) e)
 list-meant (Refused m) (Listed n) e = absurd (never n (number-of m) (sym e))
-list-meant (Refused m) (Refused n) e = ap Refused (number-once m n (same-refusal (number-of m) (number-of n) e))
+list-meant (Refused m) (Refused n) e = ap Refused (number-once m n (number-same (number-of m) (number-of n) e))
 
 pub list-once : Once list.Post × LeftOnce list.Post (λ κs s. now (s .1 .0))
 list-once = (λ κs a x y s t p q. list-meant x y (p .0 ∙ sym (q .0)), λ κs a x y s t p q. p .1 ∙ sym (q .1))

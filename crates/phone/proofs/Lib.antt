@@ -1,0 +1,2 @@
+pub mod HostOnce
+pub mod Whole
