@@ -1,5 +1,7 @@
 -- No second reply, state or lent content meets the contracts of the listing.
+use Prim.Native.Nat.{ℕ}
 use mathlib.Core.Path.{_≡_, sym, ap, _∙_}
+use mathlib.Core.List.{List}
 use denote.Ref.{now}
 use Rattle.record.specs.Refusal.{number-of}
 use Rattle.record.proofs.Once.{Once, LeftOnce, number-same, value-same, never}
@@ -7,6 +9,7 @@ use Rattle.record.proofs.RefusalLaws.{number-once}
 use Rattle.listing.specs.declared.capture.ListAnswer.{ListAnswer}
 use Rattle.listing.specs.declared.capture.ListAnswer.the-variants.{Listed, Refused}
 use Rattle.listing.specs.Listing.{meant}
+use Rattle.listing.specs.Text.{Wrote}
 use Rattle.listing.proofs.capture.list.Reads as list
 use Rattle.listing.proofs.capture.list_length.Reads as list-length
 use Rattle.listing.proofs.capture.put_notification.Reads as put-notification
@@ -29,18 +32,23 @@ length-once κs a x y s t p q = p ∙ sym q
 pub start-once : Once start.Post
 start-once κs a x y s t p q = p ∙ sym q
 
+-- one text at one place leaves one position and one content
+wrote-once : (out : List ℕ) (at : ℕ) (text left left′ : List ℕ) (next next′ : ℕ) → Wrote out at text left next → Wrote out at text left′ next′ →
+    (next ≡ next′) × (left ≡ left′)
+wrote-once out at text left left′ next next′ p q = (p .place ∙ sym (q .place), p .octets ∙ sym (q .octets))
+
 pub notification-once : Once put-notification.Post × LeftOnce put-notification.Post (λ κs s. now (s .0))
 notification-once = (
   λ κs a x y s t p q.
-      let n : x .next ≡ y .next = p .0 .place ∙ sym (q .0 .place) in
+      let n = wrote-once _ _ _ _ _ _ _ (p .0) (q .0) .0 in
       let l : x .listing ≡ y .listing = p .1 ∙ sym (q .1) in λ i. record { next = n i; listing = l i },
-  λ κs a x y s t p q. p .0 .octets ∙ sym (q .0 .octets),
+  λ κs a x y s t p q. wrote-once _ _ _ _ _ _ _ (p .0) (q .0) .1,
 )
 
 pub lines-once :
     (Once put-record.Post × LeftOnce put-record.Post (λ κs s. now (s .0))) ×
     (Once put-refused.Post × LeftOnce put-refused.Post (λ κs s. now (s .0)))
 lines-once = (
-  (λ κs a x y s t p q. p .place ∙ sym (q .place), λ κs a x y s t p q. p .octets ∙ sym (q .octets)),
-  (λ κs a x y s t p q. p .place ∙ sym (q .place), λ κs a x y s t p q. p .octets ∙ sym (q .octets)),
+  (λ κs a x y s t p q. wrote-once _ _ _ _ _ _ _ p q .0, λ κs a x y s t p q. wrote-once _ _ _ _ _ _ _ p q .1),
+  (λ κs a x y s t p q. wrote-once _ _ _ _ _ _ _ p q .0, λ κs a x y s t p q. wrote-once _ _ _ _ _ _ _ p q .1),
 )

@@ -21,7 +21,7 @@ abbrev pub told : {A : Type 0} → Answer A → (A → ℕ) → ℕ → ℕ
 told (refused n) f stood = stood
 told (given a) f stood = f a
 
--- a part of the record that a part says of itself: 13 where it is not the last, which is More Data 1
+-- a part of the record that a notification holds, by what it says of itself: "13 also means More Data 1"
 abbrev pub from-part : ℕ → List ℕ → ℕ → ℕ → ℕ → Part → Answer Extent
 from-part kind s payload i lent p = provided (p .last) 13 (split-wire kind (p .groups) (p .direction) (joined kind s zeros) payload i lent)
 
@@ -30,8 +30,8 @@ abbrev pub from-answer : ℕ → List ℕ → ℕ → ℕ → ℕ → Answer Par
 from-answer kind s payload i lent (refused n) = refused n
 from-answer kind s payload i lent (given p) = from-part kind s payload i lent p
 
--- a part of the record that one notification of a kind holds: its length and the number of parts, or the first of the refusals 11, 12, 30, 31,
--- 32, 13, 15 and 14 that applies
+-- "a record crosses as a kind and one notification with More Data 0; 30 to 32 are judged on it just before 13": a part's length and the number
+-- of parts, or the first of the refusals 11, 12, 30, 31, 32, 13, 15 and 14 that applies
 unfoldable pub split-answer : ℕ → List ℕ → ℕ → ℕ → ℕ → Answer Extent
 split-answer kind s payload i lent =
     provided (known kind) 11 (provided (payload-known payload) 12 (from-answer kind s payload i lent (part-of kind s)))
