@@ -2,17 +2,17 @@
 use crate::text::first;
 use crate::text::print;
 use crate::text::print_octets;
+use machine::machine::Machine;
+use machine::octets::Octets;
+use machine::ranges::HeartRateRange;
+use machine::ranges::Ranges;
+use machine::ranges::SignedRange;
+use machine::ranges::SpeedRange;
 use record::octets::u8_at;
 use service::control::confirm;
 use service::control::connect;
 use service::control::indicate;
-use service::control::machine::Machine;
-use service::control::octets::Octets;
 use service::control::open;
-use service::control::ranges::HeartRateRange;
-use service::control::ranges::Ranges;
-use service::control::ranges::SignedRange;
-use service::control::ranges::SpeedRange;
 use service::control::write;
 
 // Every named bit of the features and of the target settings.

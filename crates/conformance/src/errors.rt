@@ -4,7 +4,7 @@ use crate::bench::exchange;
 use crate::bench::finish;
 use crate::bench::holding;
 use crate::bench::ready;
-use service::control::machine::Machine;
+use machine::machine::Machine;
 
 // Starting a machine that runs.
 fn run_second_start() {

@@ -5,7 +5,7 @@ use crate::bench::finish;
 use crate::bench::holding;
 use crate::bench::paused;
 use crate::bench::running;
-use service::control::machine::Machine;
+use machine::machine::Machine;
 
 fn run(case: &[u8], machine: Machine, sent: &[u8], status: &[u8]) {
     let b = begin(case, machine);

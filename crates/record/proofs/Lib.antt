@@ -16,5 +16,4 @@ pub mod Kept
 pub mod Parts
 pub mod Partition
 pub mod Once
-pub mod AllCases
 pub mod Again

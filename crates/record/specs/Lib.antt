@@ -7,5 +7,4 @@ pub mod Record
 pub mod Notification
 pub mod Split
 pub mod Parts
-pub mod Cases
 pub mod Feature

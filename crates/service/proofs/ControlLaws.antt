@@ -1,6 +1,4 @@
 -- What the proofs of the control point share, and its laws.
-pub mod Tests
-pub mod Rule
 pub mod Answers
 pub mod Steps
 pub mod Places

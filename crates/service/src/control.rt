@@ -1,44 +1,30 @@
 // The control point: a machine is opened, clients connect, write op codes and confirm responses. A state goes in and comes back by value.
-mod effects;
-mod judging;
-pub mod machine;
-pub mod octets;
-pub mod op_codes;
-pub mod ranges;
-
-use crate::control::effects::done;
-use crate::control::judging::judged;
-use crate::control::machine::Machine;
-use crate::control::machine::Mode;
-use crate::control::machine::Who;
-use crate::control::machine::awaiting;
-use crate::control::machine::fresh;
-use crate::control::machine::is_client;
-use crate::control::machine::linked;
-use crate::control::machine::nothing;
-use crate::control::machine::someone;
-use crate::control::machine::without;
-use crate::control::octets::Octets;
-use crate::control::octets::kept;
-use crate::control::octets::none;
-use crate::control::octets::status;
-use crate::control::op_codes::Act;
-use crate::control::op_codes::row_of;
-use crate::control::ranges::Ranges;
-use crate::control::ranges::in_order;
+use machine::effects::perform;
+use machine::effects::setting as stored_setting;
+use machine::machine::Machine;
+use machine::machine::Mode;
+use machine::machine::Who;
+use machine::machine::awaiting;
+use machine::machine::fresh;
+use machine::machine::is_client;
+use machine::machine::linked;
+use machine::machine::nothing;
+use machine::machine::someone;
+use machine::machine::without;
+use machine::octets::Octets;
+use machine::octets::none;
+use machine::ranges::Ranges;
+use machine::ranges::in_order;
 use record::feature::Feature;
 use record::feature::FeatureAnswer;
 use record::refusal::Refusal;
 ghost use mathlib.Core.Path.{_≡_};
-ghost use mathlib.Core.Bool.{true};
-ghost use mathlib.Core.List.{[], _∷_, _++_};
 ghost use Rattle.record.specs.Refusal.{number-of};
-ghost use Rattle.service.specs.Control.OpCodes.{row};
-ghost use Rattle.service.specs.Control.Machine.{no-machine};
-ghost use Rattle.service.specs.Control.Judging.{fit};
-ghost use Rattle.service.specs.Control.Effects.{done as Effects·done};
-ghost use Rattle.service.specs.Control.Replies.{boxed, refuses, responds, Says, Opens, meant-moved};
-ghost use Rattle.service.specs.Control.Calls.{opened, connects, disconnects, indicates, confirms, writes, setting as Calls·setting};
+ghost use Rattle.machine.specs.Machine.{no-machine};
+ghost use Rattle.machine.specs.Octets.{boxed};
+ghost use Rattle.machine.specs.Effects.{setting as Effects·setting};
+ghost use Rattle.service.specs.Control.Replies.{refuses, Says, Opens, meant-moved};
+ghost use Rattle.service.specs.Control.Calls.{opened, connects, disconnects, indicates, confirms, writes};
 
 // What became of a call.
 pub enum Outcome {
@@ -210,44 +196,6 @@ fn unwritten(machine: Machine, why: Refusal) -> Written
     }
 }
 
-// A write that does not succeed.
-fn denied(machine: Machine, op: u8, result: u8) -> Written
-    ensures { λ r. ⌜ Says r (responds (0x80 ∷ op ∷ result ∷ []) [] machine) ⌝ }
-{
-    let response = [0x80, op, result];
-    Written {
-        outcome: Outcome::Done,
-        response,
-        status: none(),
-        machine,
-    }
-}
-
-// A write that succeeds.
-fn granted(machine: Machine, client: u8, op: u8, p: &[u8]) -> Written
-    requires { ⌜ fit (machine .ranges) (row op) (now p) ≡ true ⌝ }
-    ensures { λ r. ⌜ Says r (responds (0x80 ∷ op ∷ 0x01 ∷ []) (row op .status ++ now (p .entry)) (Effects·done machine client (row op .act) (now (p .entry)))) ⌝ }
-{
-    let row = row_of(op);
-    let first = row.3;
-    let next = done(machine, client, op, p);
-    let response = [0x80, op, 0x01];
-    if first == 0 {
-        return Written {
-            outcome: Outcome::Done,
-            response,
-            status: none(),
-            machine: next,
-        };
-    }
-    Written {
-        outcome: Outcome::Done,
-        response,
-        status: status(first, p),
-        machine: next,
-    }
-}
-
 // A client writes an op code and its parameter: 10, 17, 18, 19, 20, or a response that awaits confirmation, and status octets where it succeeds.
 pub fn write(machine: Machine, client: u8, octets: &[u8]) -> Written
     ensures { λ r. ⌜ Says r (writes machine client (now (octets .entry))) ⌝ }
@@ -273,31 +221,24 @@ pub fn write(machine: Machine, client: u8, octets: &[u8]) -> Written
     }
     let op = octets[0];
     let p = &octets[1..];
-    let result = judged(machine, client, op, p);
     let next = awaiting(machine, Who::Client(client));
-    if result == 1 {
-        return granted(next, client, op, p);
+    let performed = perform(next, client, op, p);
+    let response = [0x80, op, performed.result];
+    let status = performed.status;
+    let after = performed.machine;
+    Written {
+        outcome: Outcome::Done,
+        response,
+        status,
+        machine: after,
     }
-    denied(next, op, result)
 }
 
 // The setting that an op code stores, 0 at first; no octets for an op code that stores none.
 pub fn setting(machine: Machine, op: u8) -> Octets
-    ensures { λ r. ⌜ r ≡ boxed (Calls·setting machine op) ⌝ }
+    ensures { λ r. ⌜ r ≡ boxed (Effects·setting machine op) ⌝ }
 {
-    let row = row_of(op);
-    let count = row.0;
-    let act = row.4;
-    let settings = machine.settings;
-    let empty = none();
-    match act {
-        Act::TakesControl => empty,
-        Act::Resets => empty,
-        Act::Starts => empty,
-        Act::Halts => empty,
-        Act::Stores(place) => kept(settings, place, count),
-        Act::Nothing => empty,
-    }
+    stored_setting(machine, op)
 }
 
 // Who holds control.

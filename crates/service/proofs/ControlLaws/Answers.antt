@@ -1,28 +1,31 @@
 -- What each call answers, from what its code has found out.
-use Prim.Native.Nat.{ℕ, zero, suc, _-_, _≤_, _<_}
+use Prim.Native.Nat.{ℕ, _-_, _≤_, _<_}
 use mathlib.Core.Path.{_≡_, refl, ap, _∙_}
 use mathlib.Core.Bool.{Bool, true, false, not}
 use mathlib.Core.List.{List, [], _∷_, _++_}
 use native.Mathlib.Omega.{arith}
-use lib.ListN.{length, getD, take, drop, replicate, length-drop}
-use lib.Seq.{take-all, take-at}
+use lib.Dec.{eqb}
+use lib.ListN.{length, getD, take, drop, length-drop}
+use lib.Seq.{take-all}
 use borrow.Author.Tests.{lt-ltb, le-ltb, eq-eqb, ne-eqb}
 use Rattle.record.specs.declared.feature.Feature.{Feature}
 use Rattle.record.specs.Answer.{Answer, refused, given}
 use Rattle.record.specs.Feature.{feature-of}
-use Rattle.record.specs.Octets.{number, placed}
-use Rattle.record.proofs.OctetLaws.{placed-over}
-use Rattle.service.specs.declared.control.ranges.Ranges.{Ranges}
-use Rattle.service.specs.declared.control.machine.Machine.{Machine}
-use Rattle.service.specs.declared.control.machine.Who.the-variants.{Client}
-use Rattle.service.specs.Control.Ranges.{in-order}
-use Rattle.service.specs.Control.OpCodes.{OpCode, row}
-use Rattle.service.specs.Control.Machine.{someone, is-connected, is-indicating, fresh, awaiting}
-use Rattle.service.specs.Control.Judging.{supports, controls, fit, fails, first-of, result}
-use Rattle.service.specs.Control.Effects.{done}
-use Rattle.service.specs.Control.Replies.{boxed, refuses, responds}
-use Rattle.service.specs.Control.Calls.{open-with, opened, writes}
-use Rattle.service.proofs.ControlLaws.Tests.{passed, failed, tested}
+use Rattle.machine.specs.declared.ranges.Ranges.{Ranges}
+use Rattle.machine.specs.declared.machine.Machine.{Machine}
+use Rattle.machine.specs.declared.effects.Performed.{Performed}
+use Rattle.machine.specs.declared.machine.Who.the-variants.{Client}
+use Rattle.machine.specs.Ranges.{in-order}
+use Rattle.machine.specs.OpCodes.{row}
+use Rattle.machine.specs.Machine.{someone, is-connected, is-indicating, fresh, awaiting}
+use Rattle.machine.specs.Judging.{result}
+use Rattle.machine.specs.Effects.{done, carried, performed}
+use Rattle.machine.proofs.Boxes.{counts}
+use Rattle.service.specs.declared.control.Written.{Written}
+use Rattle.service.specs.declared.control.Outcome.the-variants.{Done}
+use Rattle.service.specs.Control.Replies.{refuses, responds, Says}
+use Rattle.service.specs.Control.Calls.{open-with, opened, answers, writes}
+use Rattle.machine.proofs.Tests.{passed, failed, tested}
 
 -- ---- opening
 
@@ -39,41 +42,29 @@ module _ (s : List ℕ) (r : Ranges) where
   unfolding opened
   opens-with f e o = ap (λ (x : Answer Feature). open-with x r) e ∙ rw o
 
--- ---- octets beside their count
-
-zeros-left : (n k : ℕ) → drop {A = ℕ} n (replicate k 0) ≡ replicate (k - n) 0
-zeros-left zero k = let e : k ≡ k - 0 = omega arith in ap (λ (n : ℕ). replicate n 0) e
-zeros-left (suc n) zero = let e : 0 ≡ 0 - suc n = omega arith in ap (λ (n : ℕ). replicate n 0) e
-zeros-left (suc n) (suc k) = let e : k - n ≡ suc k - suc n = omega arith in zeros-left n k ∙ ap (λ (n : ℕ). replicate n 0) e
-
-pub boxes : (p : List ℕ) → length p ≤ 11 → placed (replicate 11 0) 0 p ≡ boxed p .octets
-boxes p h = placed-over (replicate 11 0) p h ∙ ap (λ (z : List ℕ). p ++ z) (zeros-left (length p) 11)
-
-pub counts : (p : List ℕ) → take (length p) (boxed p .octets) ≡ p
-counts p = take-at p (replicate (11 - length p) 0) (length p) refl
-
 -- ---- writing
-
-pub judges : (m : Machine) (c : ℕ) (q : OpCode) (p : List ℕ) {s k t f : Bool} → s ≡ supports (m .feature) (q .need) → k ≡ controls (m .holder) c (q .act) →
-    t ≡ fit (m .ranges) q p → f ≡ fails (m .holder) (m .mode) c (q .act) (number 1 p) → first-of s k t f ≡ result m c q p
-unfolding result
-judges m c q p s k t f = λ i. first-of (s i) (k i) (t i) (f i)
-
-pub fit-of-one : (m : Machine) (c : ℕ) (q : OpCode) (p : List ℕ) → result m c q p ≡ 1 → fit (m .ranges) q p ≡ true
-unfolding result
-fit-of-one m c q p e = elim (tested (supports (m .feature) (q .need))) [
-  | failed f ↦ absurd (let z : _≡_ {A = ℕ} 2 1 = rw f at e in omega arith)
-  | passed f ↦ elim (tested (controls (m .holder) c (q .act))) [
-    | failed g ↦ absurd (let z : _≡_ {A = ℕ} 5 1 = rw (f, g) at e in omega arith)
-    | passed g ↦ elim (tested (fit (m .ranges) q p)) [
-      | passed h ↦ h
-      | failed h ↦ absurd (let z : _≡_ {A = ℕ} 3 1 = rw (f, g, h) at e in omega arith)
-    ]
-  ]
-]
 
 pub rest-of : (s : List ℕ) → take (length s - 1) (drop 1 s) ≡ drop 1 s
 rest-of s = take-all (length s - 1) (drop 1 s) (let e : length (drop 1 s) ≡ length s - 1 = length-drop 1 s in omega arith)
+
+-- a write, from what the machine performed
+abbrev pub as-written : ℕ → Performed → Written
+as-written o d = record { outcome = Done; response = 0x80 ∷ o ∷ d .result ∷ []; status = d .status; machine = d .machine }
+
+carried-so : (m : Machine) (c o : ℕ) (p : List ℕ) (n : ℕ) → Says (as-written o (carried (awaiting m (Client c)) c o p n)) (answers m c o p n)
+carried-so m c o p n = elim (tested (eqb n 1)) [
+  | passed e ↦ rw e (record {
+    means = ap (λ (x : List ℕ). responds (0x80 ∷ o ∷ n ∷ []) x (done (awaiting m (Client c)) c (row o .act) p)) (counts (row o .status ++ p));
+    response-rest = refl;
+    status-rest = refl;
+  })
+  | failed e ↦ rw e (record { means = refl; response-rest = refl; status-rest = refl })
+]
+
+-- that a response awaits confirmation does not change the result
+pub performs-so : (m : Machine) (c o : ℕ) (p : List ℕ) → Says (as-written o (performed (awaiting m (Client c)) c o p)) (answers m c o p (result m c (row o) p))
+unfolding performed result
+performs-so m c o p = carried-so m c o p (result m c (row o) p)
 
 module _ (m : Machine) (c : ℕ) (s : List ℕ) where
   pub writes-10 : 3 < c → writes m c s ≡ refuses m 10
@@ -101,12 +92,6 @@ module _ (m : Machine) (c : ℕ) (s : List ℕ) where
           writes-20 k = rw (le-ltb 3 c h, e, ne-eqb (length s) 0 f, g, k)
 
           module _ (k : someone (m .awaited) ≡ false) where
-            pub writes-01 : 1 ≡ result m c (row (getD s 0 0)) (drop 1 s) →
-                writes m c s ≡ responds (0x80 ∷ getD s 0 0 ∷ 0x01 ∷ []) (row (getD s 0 0) .status ++ drop 1 s) (done (awaiting m (Client c)) c (row (getD s 0 0) .act) (drop 1 s))
+            pub writes-so : writes m c s ≡ answers m c (getD s 0 0) (drop 1 s) (result m c (row (getD s 0 0)) (drop 1 s))
             unfolding writes
-            writes-01 r = rw (le-ltb 3 c h, e, ne-eqb (length s) 0 f, g, k, ← r)
-
-            pub writes-other : (n : ℕ) → (n ≡ 1 → ⊥) → n ≡ result m c (row (getD s 0 0)) (drop 1 s) →
-                writes m c s ≡ responds (0x80 ∷ getD s 0 0 ∷ n ∷ []) [] (awaiting m (Client c))
-            unfolding writes
-            writes-other n z r = rw (le-ltb 3 c h, e, ne-eqb (length s) 0 f, g, k, ← r, ne-eqb n 1 z)
+            writes-so = rw (le-ltb 3 c h, e, ne-eqb (length s) 0 f, g, k)

@@ -2,8 +2,8 @@
 use mathlib.Core.Path.{_≡_, refl}
 use Rattle.record.specs.Groups.{has}
 use Rattle.record.specs.Octets.{number}
-use Rattle.service.specs.Control.OpCodes.{row}
-use Rattle.service.specs.Control.Judging.{fit, result}
+use Rattle.machine.specs.OpCodes.{row}
+use Rattle.machine.specs.Judging.{fit, result}
 use Rattle.service.specs.Control.Calls.{opened, connects, disconnects, indicates, confirms, writes}
 use Rattle.service.specs.Control.Point.{run}
 use Rattle.service.specs.Control.Cases.{answered, expected-all}

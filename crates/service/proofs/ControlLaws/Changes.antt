@@ -9,20 +9,20 @@ use lib.Dec.{eqb}
 use lib.ListN.{getD}
 use Rattle.record.specs.Answer.{Answer}
 use Rattle.record.specs.Octets.{number}
-use Rattle.service.specs.declared.control.machine.Machine.{Machine}
-use Rattle.service.specs.declared.control.machine.Who.{Who}
-use Rattle.service.specs.declared.control.machine.Who.the-variants.{Nobody, Client}
-use Rattle.service.specs.declared.control.op_codes.Act.{Act}
-use Rattle.service.specs.declared.control.op_codes.Act.the-variants.{TakesControl, Resets, Starts, Halts, Stores, Nothing}
-use Rattle.service.specs.Control.OpCodes.{row}
-use Rattle.service.specs.Control.Machine.{is, someone, without, awaiting}
-use Rattle.service.specs.Control.Judging.{controls, fails}
-use Rattle.service.specs.Control.Effects.{done}
+use Rattle.machine.specs.declared.machine.Machine.{Machine}
+use Rattle.machine.specs.declared.machine.Who.{Who}
+use Rattle.machine.specs.declared.machine.Who.the-variants.{Nobody, Client}
+use Rattle.machine.specs.declared.op_codes.Act.{Act}
+use Rattle.machine.specs.declared.op_codes.Act.the-variants.{TakesControl, Resets, Starts, Halts, Stores, Nothing}
+use Rattle.machine.specs.OpCodes.{row}
+use Rattle.machine.specs.Machine.{is, someone, without, awaiting}
+use Rattle.machine.specs.Judging.{controls, fails}
+use Rattle.machine.specs.Effects.{done}
 use Rattle.service.specs.Control.Replies.{Reply, refusal-of, response-of, status-of}
 use Rattle.service.specs.Control.Calls.{disconnects, writes}
 use Rattle.service.specs.Control.Point.{Call, disconnect, write, service, step}
 use Rattle.service.specs.Control.Laws.{caller, Unchanged, Spared}
-use Rattle.service.proofs.ControlLaws.Tests.{passed, failed, tested, eqb-eq}
+use Rattle.machine.proofs.Tests.{passed, failed, tested, eqb-eq}
 use Rattle.service.proofs.ControlLaws.Steps.{Stepped, refusal, connected, gone, indicated, confirmed, denied, granted, steps}
 
 pub is-client : (w : Who) (c : ℕ) → is w c ≡ true → w ≡ Client c

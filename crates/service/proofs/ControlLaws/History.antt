@@ -9,23 +9,23 @@ use lib.Dec.{eqb}
 use lib.ListN.{getD}
 use Rattle.record.specs.declared.feature.Feature.{Feature}
 use Rattle.record.specs.Answer.{Answer, refused, given}
-use Rattle.service.specs.declared.control.ranges.Ranges.{Ranges}
-use Rattle.service.specs.declared.control.machine.Machine.{Machine}
-use Rattle.service.specs.declared.control.machine.Who.{Who}
-use Rattle.service.specs.declared.control.machine.Who.the-variants.{Nobody, Client}
-use Rattle.service.specs.declared.control.op_codes.Act.{Act}
-use Rattle.service.specs.declared.control.op_codes.Act.the-variants.{TakesControl, Resets, Starts, Halts, Stores, Nothing}
-use Rattle.service.specs.Control.OpCodes.{OpCode, row}
-use Rattle.service.specs.Control.Machine.{without, fresh, awaiting, held-by}
-use Rattle.service.specs.Control.Judging.{controls}
-use Rattle.service.specs.Control.Effects.{done}
+use Rattle.machine.specs.declared.ranges.Ranges.{Ranges}
+use Rattle.machine.specs.declared.machine.Machine.{Machine}
+use Rattle.machine.specs.declared.machine.Who.{Who}
+use Rattle.machine.specs.declared.machine.Who.the-variants.{Nobody, Client}
+use Rattle.machine.specs.declared.op_codes.Act.{Act}
+use Rattle.machine.specs.declared.op_codes.Act.the-variants.{TakesControl, Resets, Starts, Halts, Stores, Nothing}
+use Rattle.machine.specs.OpCodes.{OpCode, row}
+use Rattle.machine.specs.Machine.{without, fresh, awaiting, held-by}
+use Rattle.machine.specs.Judging.{controls}
+use Rattle.machine.specs.Effects.{done}
 use Rattle.service.specs.Control.Replies.{Reply, reply, response-of}
 use Rattle.service.specs.Control.Calls.{opened, writes}
 use Rattle.service.specs.Control.Point.{Call, connect, disconnect, confirm, indicate, write, service, Event, step, run}
 use Rattle.service.specs.Control.Laws.{caller, succeeded, is-disconnect, ends, any, holder-by}
-use Rattle.service.proofs.ControlLaws.Tests.{passed, failed, tested, eqb-eq, eqb-false, eqb-same}
+use Rattle.machine.proofs.Tests.{passed, failed, tested, eqb-eq, eqb-false, eqb-same}
 use Rattle.service.proofs.ControlLaws.Steps.{Granted, Stepped, refusal, connected, gone, indicated, confirmed, denied, granted, steps}
-use Rattle.service.proofs.ControlLaws.Rule.{row-rule, row-op}
+use Rattle.machine.proofs.Rule.{row-rule, row-op}
 use Rattle.service.proofs.ControlLaws.Kept.{opened-fresh}
 use Rattle.service.proofs.ControlLaws.Changes.{is-client}
 

@@ -11,23 +11,23 @@ use Rattle.record.specs.declared.feature.Feature.{Feature}
 use Rattle.record.specs.Feature.{feature-of}
 use Rattle.record.specs.Answer.{Answer, refused, given}
 use Rattle.record.specs.Octets.{number, placed}
-use Rattle.service.specs.declared.control.ranges.Ranges.{Ranges}
-use Rattle.service.specs.declared.control.machine.Machine.{Machine}
-use Rattle.service.specs.declared.control.machine.Who.{Who}
-use Rattle.service.specs.declared.control.machine.Who.the-variants.{Nobody, Client}
-use Rattle.service.specs.declared.control.op_codes.Act.{Act}
-use Rattle.service.specs.declared.control.op_codes.Act.the-variants.{TakesControl, Resets, Starts, Halts, Stores, Nothing}
-use Rattle.service.specs.Control.Ranges.{in-order, allowed}
-use Rattle.service.specs.Control.OpCodes.{row, size}
-use Rattle.service.specs.Control.Machine.{without, is-connected, fresh, awaiting, storing}
-use Rattle.service.specs.Control.Judging.{known-halt, fit}
-use Rattle.service.specs.Control.Effects.{done}
+use Rattle.machine.specs.declared.ranges.Ranges.{Ranges}
+use Rattle.machine.specs.declared.machine.Machine.{Machine}
+use Rattle.machine.specs.declared.machine.Who.{Who}
+use Rattle.machine.specs.declared.machine.Who.the-variants.{Nobody, Client}
+use Rattle.machine.specs.declared.op_codes.Act.{Act}
+use Rattle.machine.specs.declared.op_codes.Act.the-variants.{TakesControl, Resets, Starts, Halts, Stores, Nothing}
+use Rattle.machine.specs.Ranges.{in-order, allowed}
+use Rattle.machine.specs.OpCodes.{row, size}
+use Rattle.machine.specs.Machine.{without, is-connected, fresh, awaiting, storing}
+use Rattle.machine.specs.Judging.{known-halt, fit}
+use Rattle.machine.specs.Effects.{done, setting}
 use Rattle.service.specs.Control.Replies.{Reply}
-use Rattle.service.specs.Control.Calls.{open-with, opened, setting}
+use Rattle.service.specs.Control.Calls.{open-with, opened}
 use Rattle.service.specs.Control.Point.{Call, service, Event, step, run}
 use Rattle.service.specs.Control.Laws.{Present, Links, Right, at-zero, set-to, Sound}
-use Rattle.service.proofs.ControlLaws.Tests.{passed, failed, tested, eqb-eq, eqb-ne, and-left, and-right}
-use Rattle.service.proofs.ControlLaws.Rule.{length-fit}
+use Rattle.machine.proofs.Tests.{passed, failed, tested, eqb-eq, eqb-ne, and-left, and-right}
+use Rattle.machine.proofs.Rule.{length-fit}
 use Rattle.service.proofs.ControlLaws.Places.{stored-same, stored-other, zero-at}
 use Rattle.service.proofs.ControlLaws.Steps.{Stepped, refusal, connected, gone, indicated, confirmed, denied, granted, steps}
 

@@ -10,12 +10,12 @@ use Rattle.record.specs.declared.feature.Feature.{Feature}
 use Rattle.record.specs.Answer.{Answer, refused, given}
 use Rattle.record.specs.Groups.{has}
 use Rattle.record.specs.Octets.{number}
-use Rattle.service.specs.declared.control.ranges.Ranges.{Ranges}
-use Rattle.service.specs.declared.control.ranges.SignedRange.{SignedRange}
-use Rattle.service.specs.declared.control.machine.Machine.{Machine}
-use Rattle.service.specs.Control.OpCodes.{row}
-use Rattle.service.specs.Control.Machine.{fresh}
-use Rattle.service.specs.Control.Judging.{fit, result}
+use Rattle.machine.specs.declared.ranges.Ranges.{Ranges}
+use Rattle.machine.specs.declared.ranges.SignedRange.{SignedRange}
+use Rattle.machine.specs.declared.machine.Machine.{Machine}
+use Rattle.machine.specs.OpCodes.{row}
+use Rattle.machine.specs.Machine.{fresh}
+use Rattle.machine.specs.Judging.{fit, result}
 use Rattle.service.specs.Control.Replies.{Reply, reply, response-of}
 use Rattle.service.specs.Control.Calls.{opened, connects, indicates, writes}
 use Rattle.service.specs.Control.Point.{Call, connect, indicate, write, Point, service, Event, step, run, Answers}

@@ -6,7 +6,7 @@ use Rattle.record.specs.Answer.{Answer}
 use Rattle.record.specs.Refusal.{number-of}
 use Rattle.record.proofs.Once.{Once, same, number-same, never}
 use Rattle.record.proofs.RefusalLaws.{number-once}
-use Rattle.service.specs.declared.control.machine.Machine.{Machine}
+use Rattle.machine.specs.declared.machine.Machine.{Machine}
 use Rattle.service.specs.declared.control.Outcome.{Outcome}
 use Rattle.service.specs.declared.control.Outcome.the-variants.{Done, Refused}
 use Rattle.service.specs.declared.control.Opened.{Opened}
@@ -23,7 +23,6 @@ use Rattle.service.proofs.control.setting.Reads as setting
 use Rattle.service.proofs.control.holder.Reads as holder
 use Rattle.service.proofs.control.mode.Reads as mode
 use Rattle.service.proofs.control.awaited.Reads as awaited
-use Rattle.service.proofs.control.op_codes.row_of.Reads as row-of
 
 -- ---- the meaning of an answer is the answer
 
@@ -77,6 +76,6 @@ calls-once = (
 pub write-once : Once write.Post
 write-once κs a x y s t p q = written-meant x y _ p q
 
-pub readings-once : Once setting.Post × Once holder.Post × Once mode.Post × Once awaited.Post × Once row-of.Post
+pub readings-once : Once setting.Post × Once holder.Post × Once mode.Post × Once awaited.Post
 readings-once =
-    (λ κs a x y s t. same, λ κs a x y s t. same, λ κs a x y s t. same, λ κs a x y s t. same, λ κs a x y s t. same)
+    (λ κs a x y s t. same, λ κs a x y s t. same, λ κs a x y s t. same, λ κs a x y s t. same)

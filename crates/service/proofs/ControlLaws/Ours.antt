@@ -8,16 +8,17 @@ use lib.ListN.{getD}
 use base.Fml.{Lft}
 use denote.Ref.{RefT, now}
 use Rattle.record.specs.Answer.{Answer, given}
-use Rattle.service.specs.declared.control.ranges.Ranges.{Ranges}
-use Rattle.service.specs.declared.control.machine.Machine.{Machine}
-use Rattle.service.specs.declared.control.machine.Who.the-variants.{Client}
+use Rattle.machine.specs.declared.ranges.Ranges.{Ranges}
+use Rattle.machine.specs.declared.machine.Machine.{Machine}
+use Rattle.machine.specs.declared.machine.Who.the-variants.{Client}
 use Rattle.service.specs.declared.control.Opened.{Opened}
 use Rattle.service.specs.declared.control.Moved.{Moved}
 use Rattle.service.specs.declared.control.Written.{Written}
-use Rattle.service.specs.declared.control.op_codes.Act.the-variants.{Stores}
-use Rattle.service.specs.Control.OpCodes.{row}
+use Rattle.machine.specs.declared.op_codes.Act.the-variants.{Stores}
+use Rattle.machine.specs.OpCodes.{row}
 use Rattle.service.specs.Control.Replies.{Reply, refusal-of, response-of, meant-opened, meant-moved, meant-written}
-use Rattle.service.specs.Control.Calls.{opened, setting}
+use Rattle.machine.specs.Effects.{setting}
+use Rattle.service.specs.Control.Calls.{opened}
 use Rattle.service.specs.Control.Point.{Call, connect, disconnect, confirm, indicate, write, Point, service, Event, step, run, Answers}
 use Rattle.service.specs.Control.Laws.{Sound, holder-by, setting-by, Heard, Unchanged, Spared, caller}
 use Rattle.service.proofs.ControlLaws.Kept.{sound-step, sound-after}

@@ -9,15 +9,15 @@ use lib.Dec.{eqb, leb, leb→le}
 use lib.ListN.{length, take, drop, set, replicate}
 use lib.Seq.{sets-eq, take-at, drop-at, length-take-le, take-set-le, drop-set-lt, drop-set-add}
 use Rattle.record.specs.Octets.{placed}
-use Rattle.service.specs.declared.control.machine.Machine.{Machine}
-use Rattle.service.specs.declared.control.op_codes.Act.{Act}
-use Rattle.service.specs.declared.control.op_codes.Act.the-variants.{TakesControl, Resets, Starts, Halts, Stores, Nothing}
-use Rattle.service.specs.Control.OpCodes.{OpCode, at, table, row, size}
-use Rattle.service.specs.Control.Machine.{storing}
-use Rattle.service.specs.Control.Calls.{part, setting}
+use Rattle.machine.specs.declared.machine.Machine.{Machine}
+use Rattle.machine.specs.declared.op_codes.Act.{Act}
+use Rattle.machine.specs.declared.op_codes.Act.the-variants.{TakesControl, Resets, Starts, Halts, Stores, Nothing}
+use Rattle.machine.specs.OpCodes.{OpCode, at, table, row, size}
+use Rattle.machine.specs.Machine.{storing}
+use Rattle.machine.specs.Effects.{part, setting}
 use Rattle.service.specs.Control.Laws.{zero-setting}
-use Rattle.service.proofs.ControlLaws.Tests.{test-holds, eqb-false}
-use Rattle.service.proofs.ControlLaws.Rule.{every, row-rule, row-op, place-fits}
+use Rattle.machine.proofs.Tests.{test-holds, eqb-false}
+use Rattle.machine.proofs.Rule.{every, row-rule, row-op, place-fits}
 
 -- ---- octets from a place on, where others are written before or after them, or over them
 

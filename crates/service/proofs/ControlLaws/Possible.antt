@@ -12,19 +12,21 @@ use Rattle.record.specs.declared.refusal.Refusal.{Refusal}
 use Rattle.record.specs.declared.refusal.Refusal.the-variants.{ClientAboveThree, UnknownKind, PayloadOutOfRange, NotWellFormed, OutputTooShort, NoSuchPart, RangeReversed, NotConnected, EmptyWrite, IndicationsOff, ResponseAwaited, NothingDue, NotEightOctets}
 use Rattle.record.specs.Refusal.{number-of}
 use Rattle.record.specs.Feature.{named, words}
-use Rattle.service.specs.declared.control.ranges.Ranges.{Ranges}
-use Rattle.service.specs.declared.control.machine.Machine.{Machine}
+use Rattle.machine.specs.declared.ranges.Ranges.{Ranges}
+use Rattle.machine.specs.declared.machine.Machine.{Machine}
 use Rattle.service.specs.declared.control.Outcome.the-variants.{Done, Refused}
 use Rattle.service.specs.declared.control.Opened.{Opened}
 use Rattle.service.specs.declared.control.Moved.{Moved}
 use Rattle.service.specs.declared.control.Written.{Written}
-use Rattle.service.specs.Control.Ranges.{in-order}
-use Rattle.service.specs.Control.Machine.{no-machine}
-use Rattle.service.specs.Control.Replies.{Reply, boxed, refuses, responds, accepts, meant-moved, Opens, Says}
+use Rattle.machine.specs.Ranges.{in-order}
+use Rattle.machine.specs.Machine.{no-machine}
+use Rattle.machine.specs.Octets.{boxed}
+use Rattle.service.specs.Control.Replies.{Reply, refuses, responds, accepts, meant-moved, Opens, Says}
 use Rattle.service.specs.Control.Calls.{opened, connects, disconnects, indicates, confirms, writes}
 use Rattle.service.specs.Control.Point.{Call, connect, disconnect, confirm, indicate, write, service, step}
-use Rattle.service.proofs.ControlLaws.Tests.{passed, failed, tested}
-use Rattle.service.proofs.ControlLaws.Answers.{counts, opens-22, opens-16, opens-with}
+use Rattle.machine.proofs.Tests.{passed, failed, tested}
+use Rattle.machine.proofs.Boxes.{counts}
+use Rattle.service.proofs.ControlLaws.Answers.{opens-22, opens-16, opens-with}
 use Rattle.service.proofs.ControlLaws.Steps.{Stepped, refusal, connected, gone, indicated, confirmed, denied, granted, steps}
 use Rattle.service.proofs.ControlLaws.Ours.{DidOpen, did-open, Did, did-connect, did-disconnect, did-confirm, did-indicate, did-write, ByContract}
 

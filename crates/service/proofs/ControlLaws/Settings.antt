@@ -8,21 +8,21 @@ use lib.Dec.{eqb}
 use lib.ListN.{getD}
 use Rattle.record.specs.declared.feature.Feature.{Feature}
 use Rattle.record.specs.Answer.{Answer, given}
-use Rattle.service.specs.declared.control.ranges.Ranges.{Ranges}
-use Rattle.service.specs.declared.control.machine.Machine.{Machine}
-use Rattle.service.specs.declared.control.machine.Who.the-variants.{Client}
-use Rattle.service.specs.declared.control.op_codes.Act.{Act}
-use Rattle.service.specs.declared.control.op_codes.Act.the-variants.{TakesControl, Resets, Starts, Halts, Stores, Nothing}
-use Rattle.service.specs.Control.OpCodes.{OpCode, row}
-use Rattle.service.specs.Control.Machine.{fresh, awaiting}
-use Rattle.service.specs.Control.Judging.{fit}
-use Rattle.service.specs.Control.Effects.{done}
+use Rattle.machine.specs.declared.ranges.Ranges.{Ranges}
+use Rattle.machine.specs.declared.machine.Machine.{Machine}
+use Rattle.machine.specs.declared.machine.Who.the-variants.{Client}
+use Rattle.machine.specs.declared.op_codes.Act.{Act}
+use Rattle.machine.specs.declared.op_codes.Act.the-variants.{TakesControl, Resets, Starts, Halts, Stores, Nothing}
+use Rattle.machine.specs.OpCodes.{OpCode, row}
+use Rattle.machine.specs.Machine.{fresh, awaiting}
+use Rattle.machine.specs.Judging.{fit}
+use Rattle.machine.specs.Effects.{done, setting}
 use Rattle.service.specs.Control.Replies.{Reply, response-of}
-use Rattle.service.specs.Control.Calls.{opened, writes, setting}
+use Rattle.service.specs.Control.Calls.{opened, writes}
 use Rattle.service.specs.Control.Point.{Call, write, service, Event, step, run}
 use Rattle.service.specs.Control.Laws.{Sound, zero-setting, parameter, succeeded, setting-by}
-use Rattle.service.proofs.ControlLaws.Tests.{passed, failed, tested, eqb-eq, eqb-ne, eqb-false}
-use Rattle.service.proofs.ControlLaws.Rule.{row-rule, row-op, length-fit}
+use Rattle.machine.proofs.Tests.{passed, failed, tested, eqb-eq, eqb-ne, eqb-false}
+use Rattle.machine.proofs.Rule.{row-rule, row-op, length-fit}
 use Rattle.service.proofs.ControlLaws.Steps.{Stepped, refusal, connected, gone, indicated, confirmed, denied, granted, steps}
 use Rattle.service.proofs.ControlLaws.Places.{stored-same, stored-other, zero-at}
 use Rattle.service.proofs.ControlLaws.Kept.{opened-fresh, sound-fresh, sound-step}

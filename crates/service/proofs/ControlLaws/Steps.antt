@@ -8,17 +8,17 @@ use lib.Dec.{eqb, ltb, lit≤, eqb·suc-zero}
 use lib.ListN.{length, set}
 use Rattle.record.specs.Answer.{Answer}
 use Rattle.record.specs.Octets.{number}
-use Rattle.service.specs.declared.control.machine.Machine.{Machine}
-use Rattle.service.specs.declared.control.machine.Who.the-variants.{Nobody, Client}
-use Rattle.service.specs.Control.OpCodes.{row}
-use Rattle.service.specs.Control.Machine.{is, someone, without, is-connected, is-indicating, linked, awaiting}
-use Rattle.service.specs.Control.Judging.{supports, controls, fit, fails, result}
-use Rattle.service.specs.Control.Effects.{done}
+use Rattle.machine.specs.declared.machine.Machine.{Machine}
+use Rattle.machine.specs.declared.machine.Who.the-variants.{Nobody, Client}
+use Rattle.machine.specs.OpCodes.{row}
+use Rattle.machine.specs.Machine.{is, someone, without, is-connected, is-indicating, linked, awaiting}
+use Rattle.machine.specs.Judging.{supports, controls, fit, fails, result}
+use Rattle.machine.specs.Effects.{done}
 use Rattle.service.specs.Control.Replies.{Reply, reply, refuses, accepts}
 use Rattle.service.specs.Control.Calls.{connects, disconnects, indicates, confirms, answers, writes}
 use Rattle.service.specs.Control.Point.{Call, connect, disconnect, confirm, indicate, write, service, step}
 use Rattle.service.specs.Control.Laws.{Heard}
-use Rattle.service.proofs.ControlLaws.Tests.{passed, failed, tested, eqb-false, ltb-le}
+use Rattle.machine.proofs.Tests.{passed, failed, tested, eqb-false, ltb-le}
 
 -- what must hold of a write that succeeds
 pub record Granted (m : Machine) (c o : ℕ) (p : List ℕ) : Type 0 where

@@ -3,20 +3,18 @@ use Prim.Native.Nat.{ℕ}
 use mathlib.Core.Bool.{Bool, true, false, cond, not}
 use mathlib.Core.List.{List, [], _∷_, _++_}
 use lib.Dec.{eqb, ltb}
-use lib.ListN.{length, getD, set, take, drop}
+use lib.ListN.{length, getD, set, drop}
 use Rattle.record.specs.declared.feature.Feature.{Feature}
 use Rattle.record.specs.Answer.{Answer, refused, given, provided}
 use Rattle.record.specs.Feature.{feature-of}
-use Rattle.service.specs.declared.control.ranges.Ranges.{Ranges}
-use Rattle.service.specs.declared.control.machine.Machine.{Machine}
-use Rattle.service.specs.declared.control.machine.Who.the-variants.{Nobody, Client}
-use Rattle.service.specs.declared.control.op_codes.Act.{Act}
-use Rattle.service.specs.declared.control.op_codes.Act.the-variants.{TakesControl, Resets, Starts, Halts, Stores, Nothing}
-use Rattle.service.specs.Control.Ranges.{in-order}
-use Rattle.service.specs.Control.OpCodes.{row, size}
-use Rattle.service.specs.Control.Machine.{is, someone, without, is-connected, is-indicating, fresh, linked, awaiting}
-use Rattle.service.specs.Control.Judging.{result}
-use Rattle.service.specs.Control.Effects.{done}
+use Rattle.machine.specs.declared.ranges.Ranges.{Ranges}
+use Rattle.machine.specs.declared.machine.Machine.{Machine}
+use Rattle.machine.specs.declared.machine.Who.the-variants.{Nobody, Client}
+use Rattle.machine.specs.Ranges.{in-order}
+use Rattle.machine.specs.OpCodes.{row}
+use Rattle.machine.specs.Machine.{is, someone, without, is-connected, is-indicating, fresh, linked, awaiting}
+use Rattle.machine.specs.Judging.{result}
+use Rattle.machine.specs.Effects.{done}
 use Rattle.service.specs.Control.Replies.{Reply, refuses, accepts, responds}
 
 -- "opening a machine 22, 16"
@@ -72,15 +70,3 @@ writes m c s =
     (cond (not (is-indicating m c)) (refuses m 19)
     (cond (someone (m .awaited)) (refuses m 20)
     (answers m c (getD s 0 0) (drop 1 s) (result m c (row (getD s 0 0)) (drop 1 s)))))))
-
--- the octets of a setting, from its place on; none for an op code that stores nothing
-abbrev pub part : List ℕ → ℕ → Act → List ℕ
-part s n TakesControl = []
-part s n Resets = []
-part s n Starts = []
-part s n Halts = []
-part s n (Stores at) = take n (drop at s)
-part s n Nothing = []
-
-unfoldable pub setting : Machine → ℕ → List ℕ
-setting m o = part (m .settings) (size (row o .parameter)) (row o .act)

@@ -4,8 +4,8 @@ use mathlib.Core.Bool.{true}
 use mathlib.Core.List.{List, [], _∷_, _++_, map}
 use lib.IntN.{pos, negsuc}
 use Rattle.record.specs.Answer.{Answer, refused, given}
-use Rattle.service.specs.declared.control.ranges.Ranges.{Ranges}
-use Rattle.service.specs.declared.control.machine.Machine.{Machine}
+use Rattle.machine.specs.declared.ranges.Ranges.{Ranges}
+use Rattle.machine.specs.declared.machine.Machine.{Machine}
 use Rattle.service.specs.Control.Replies.{Reply, reply}
 use Rattle.service.specs.Control.Calls.{opened}
 use Rattle.service.specs.Control.Point.{Call, connect, confirm, indicate, write, service, Event, run}

@@ -7,17 +7,17 @@ use mathlib.Core.List.{List, [], _∷_}
 use lib.Dec.{eqb}
 use lib.ListN.{length, getD, drop, replicate}
 use Rattle.record.specs.Answer.{Answer}
-use Rattle.service.specs.declared.control.ranges.Ranges.{Ranges}
-use Rattle.service.specs.declared.control.machine.Machine.{Machine}
-use Rattle.service.specs.declared.control.machine.Who.{Who}
-use Rattle.service.specs.declared.control.machine.Who.the-variants.{Nobody, Client}
-use Rattle.service.specs.declared.control.op_codes.Act.{Act}
-use Rattle.service.specs.declared.control.op_codes.Act.the-variants.{TakesControl, Resets, Starts, Halts, Stores, Nothing}
-use Rattle.service.specs.Control.Ranges.{allowed}
-use Rattle.service.specs.Control.OpCodes.{OpCode, row, size}
-use Rattle.service.specs.Control.Machine.{someone, is-connected, is-indicating}
+use Rattle.machine.specs.declared.ranges.Ranges.{Ranges}
+use Rattle.machine.specs.declared.machine.Machine.{Machine}
+use Rattle.machine.specs.declared.machine.Who.{Who}
+use Rattle.machine.specs.declared.machine.Who.the-variants.{Nobody, Client}
+use Rattle.machine.specs.declared.op_codes.Act.{Act}
+use Rattle.machine.specs.declared.op_codes.Act.the-variants.{TakesControl, Resets, Starts, Halts, Stores, Nothing}
+use Rattle.machine.specs.Ranges.{allowed}
+use Rattle.machine.specs.OpCodes.{OpCode, row, size}
+use Rattle.machine.specs.Machine.{someone, is-connected, is-indicating}
 use Rattle.service.specs.Control.Replies.{Reply, refusal-of, response-of, status-of}
-use Rattle.service.specs.Control.Calls.{setting}
+use Rattle.machine.specs.Effects.{setting}
 use Rattle.service.specs.Control.Point.{Call, connect, disconnect, confirm, indicate, write, Event}
 
 -- ---- invariants

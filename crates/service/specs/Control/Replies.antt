@@ -1,26 +1,18 @@
 -- What each answer of the code means in document 01: "Replies come back by value."
-use Prim.Native.Nat.{ℕ, _-_}
+use Prim.Native.Nat.{ℕ}
 use mathlib.Core.Path.{_≡_}
-use mathlib.Core.List.{List, [], _++_}
-use lib.ListN.{length, take, replicate}
+use mathlib.Core.List.{List, []}
+use lib.ListN.{replicate}
 use Rattle.record.specs.Answer.{Answer, refused, given}
 use Rattle.record.specs.Refusal.{number-of}
-use Rattle.service.specs.declared.control.machine.Machine.{Machine}
-use Rattle.service.specs.declared.control.octets.Octets.{Octets}
+use Rattle.machine.specs.declared.machine.Machine.{Machine}
 use Rattle.service.specs.declared.control.Outcome.{Outcome}
 use Rattle.service.specs.declared.control.Outcome.the-variants as outcome
 use Rattle.service.specs.declared.control.Opened.{Opened}
 use Rattle.service.specs.declared.control.Moved.{Moved}
 use Rattle.service.specs.declared.control.Written.{Written}
-use Rattle.service.specs.Control.Machine.{no-machine}
-
--- octets beside their count, with zeros past it
-abbrev pub boxed : List ℕ → Octets
-boxed p = record { count = length p; octets = p ++ replicate (11 - length p) 0 }
-
--- the octets that count
-abbrev pub counted : Octets → List ℕ
-counted o = take (o .count) (o .octets)
+use Rattle.machine.specs.Machine.{no-machine}
+use Rattle.machine.specs.Octets.{boxed, counted}
 
 -- response octets and status octets, none where a call has none
 pub record Reply : Type 0 where

@@ -1,16 +1,14 @@
 -- `write` meets its contract: the refusals in their order, then the result. Assumes nothing.
 use Prim.Native.Nat.{ℕ, _≤_}
-use mathlib.Core.Path.{_≡_, sym, ap, _∙_}
+use mathlib.Core.Path.{_≡_, sym, _∙_}
 use mathlib.Core.Bool.{false, not}
 use mathlib.Core.List.{List}
 use borrow.Author.Needs.{needs}
 use denote.Ref.{now}
 use lib.ListN.{length, getD, drop}
-use Rattle.service.specs.declared.control.machine.Machine.{Machine}
-use Rattle.service.specs.Control.OpCodes.{row}
-use Rattle.service.specs.Control.Machine.{someone, is-connected, is-indicating}
-use Rattle.service.specs.Control.Judging.{result}
-use Rattle.service.proofs.ControlLaws.Answers.{fit-of-one, rest-of, writes-10, writes-17, writes-18, writes-19, writes-20, writes-01, writes-other}
+use Rattle.machine.specs.declared.machine.Machine.{Machine}
+use Rattle.machine.specs.Machine.{someone, is-connected, is-indicating}
+use Rattle.service.proofs.ControlLaws.Answers.{performs-so, rest-of, writes-10, writes-17, writes-18, writes-19, writes-20, writes-so}
 use Rattle.service.proofs.control.write.Statement.{statement}
 use Rattle.service.proofs.control.write.Tie as tie
 
@@ -42,11 +40,6 @@ clear c = sym (c .before .someone .ensures) ∙ c .if5 .left
 
 abbrev start : tie.Else5 → tie.Start
 start c = c .before .before .before .before .before .before .before .before .before
-
--- the result is that of the first octet with the others as its parameter
-judged-so : (c : tie.After-judged) → let s = start (c .before .before .before) in
-    c .judged .result ≡ result (m s) (by s) (row (getD (octets s) 0 0)) (drop 1 (octets s))
-judged-so c = let s = start (c .before .before .before) in rw (rest-of (octets s)) at (c .judged .ensures)
 
 returns : tie.Need-returns
 returns c = let s = c .before .before .before in rw (writes-10 (m s) (by s) (octets s) (c .before .if1 .taken)) (c .unwritten .ensures)
@@ -81,33 +74,15 @@ returns-5 c =
     let s = e .before .before in
     rw (writes-20 (m s) (by s) (octets s) (small e) (joined j) (some o) (shown i) (sym (c .before .before .someone .ensures) ∙ c .before .if5 .taken)) (c .unwritten5 .ensures)
 
-granted-requires : tie.Need-granted-requires
-granted-requires c κs =
-    let j = c .before .before in
-    let s = start (j .before .before .before) in
-    rw (rest-of (octets s), ap (λ (x : Machine). x .ranges) (c .before .awaiting .ensures))
-    (fit-of-one (m s) (by s) (row (getD (octets s) 0 0)) (drop 1 (octets s)) (sym (judged-so j) ∙ c .if6 .taken))
-
 returns-6 : tie.Need-returns-6
 returns-6 c =
-    let j = c .before .before .before in
-    let q = j .before .before .before in
+    let d = c .before .before in
+    let q = d .before .before .before .before in
     let i = q .before .before in
     let o = i .before in
     let s = start q in
-    let one : j .judged .result ≡ 1 = c .before .if6 .taken in
-    rw (writes-01 (m s) (by s) (octets s) (small (o .before .before .before .before)) (joined (o .before)) (some o) (shown i) (clear q) (sym one ∙ judged-so j))
-    (rw (rest-of (octets s), c .before .before .awaiting .ensures) at (c .granted .ensures))
-
-returns-7 : tie.Need-returns-7
-returns-7 c =
-    let j = c .before .before .before in
-    let q = j .before .before .before in
-    let i = q .before .before in
-    let o = i .before in
-    let s = start q in
-    rw (writes-other (m s) (by s) (octets s) (small (o .before .before .before .before)) (joined (o .before)) (some o) (shown i) (clear q) (j .judged .result) (c .before .if6 .left) (judged-so j))
-    (rw (c .before .before .awaiting .ensures) at (c .denied .ensures))
+    rw (writes-so (m s) (by s) (octets s) (small (o .before .before .before .before)) (joined (o .before)) (some o) (shown i) (clear q))
+    (rw (d .perform .ensures, d .before .awaiting .ensures, rest-of (octets s)) (performs-so (m s) (by s) (getD (octets s) 0 0) (drop 1 (octets s))))
 
 pub write-spec : {M : Type 1} → statement M
 write-spec = tie.close (tie.spec (λ c κs. search needs)
@@ -129,7 +104,4 @@ write-spec = tie.close (tie.spec (λ c κs. search needs)
     (λ c. search needs)
     (λ c κs. search needs)
     (λ c κs. search needs)
-    granted-requires
-    returns-6
-    (λ c κs. search needs)
-    returns-7)
+    returns-6)

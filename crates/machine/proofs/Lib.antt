@@ -1,0 +1,5 @@
+pub mod Tests
+pub mod Rule
+pub mod Boxes
+pub mod Results
+pub mod Once

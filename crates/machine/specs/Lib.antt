@@ -1,0 +1,6 @@
+pub mod Ranges
+pub mod OpCodes
+pub mod Octets
+pub mod Machine
+pub mod Judging
+pub mod Effects

@@ -1,0 +1,72 @@
+// Octets that are kept: written over others, and handed out with their count.
+ghost use mathlib.Core.Path.{_≡_};
+ghost use mathlib.Core.List.{[], _∷_};
+ghost use Prim.Native.Nat.{_+_, _≤_};
+ghost use lib.ListN.{length, take, drop};
+ghost use Rattle.record.specs.Octets.{placed};
+ghost use Rattle.machine.specs.Octets.{boxed};
+
+// As many octets as the count says; those past the count are 0.
+pub struct Octets {
+    pub count: u8,
+    pub octets: [u8; 11],
+}
+
+// Writes octets over others, from a place on.
+fn put(out: &mut [u8], at: usize, octets: &[u8])
+    requires { ⌜ at + length (now octets) ≤ length (now out) ⌝ }
+    ensures { λ r. ⌜ now (out .exit) ≡ placed (now (out .entry)) at (now (octets .entry)) ⌝ }
+{
+    let mut i = 0;
+    while i < octets.len() {
+        out[at + i] = octets[i];
+        i = i + 1;
+    }
+}
+
+// The settings with some octets written at a place.
+pub(crate) fn stored(settings: [u8; 49], place: u8, octets: &[u8]) -> [u8; 49]
+    requires { ⌜ place + length (now octets) ≤ 49 ⌝ }
+    ensures { λ r. ⌜ r ≡ placed settings place (now (octets .entry)) ⌝ }
+{
+    let mut out = settings;
+    put(&mut out, place as usize, octets);
+    out
+}
+
+// The octets of a setting that starts at a place.
+pub(crate) fn kept(settings: [u8; 49], place: u8, count: u8) -> Octets
+    requires { ⌜ (place + count ≤ 49) × (count ≤ 11) ⌝ }
+    ensures { λ r. ⌜ r ≡ boxed (take count (drop place settings)) ⌝ }
+{
+    let start = place as usize;
+    let end = start + count as usize;
+    let mut octets = [0u8; 11];
+    put(&mut octets, 0, &settings[start..end]);
+    Octets { count, octets }
+}
+
+// No octets.
+pub fn none() -> Octets
+    ensures { λ r. ⌜ r ≡ boxed [] ⌝ }
+{
+    Octets {
+        count: 0,
+        octets: [0u8; 11],
+    }
+}
+
+// A status octet and the parameter.
+pub(crate) fn status(first: u8, p: &[u8]) -> Octets
+    requires { ⌜ length (now p) ≤ 10 ⌝ }
+    ensures { λ r. ⌜ r ≡ boxed (first ∷ now (p .entry)) ⌝ }
+{
+    let mut octets = [0u8; 11];
+    octets[0] = first;
+    put(&mut octets, 1, p);
+    let n = p.len() as u8;
+    Octets {
+        count: 1 + n,
+        octets,
+    }
+}
