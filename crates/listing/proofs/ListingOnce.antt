@@ -9,7 +9,7 @@ use Rattle.record.proofs.RefusalLaws.{number-once}
 use Rattle.listing.specs.declared.capture.ListAnswer.{ListAnswer}
 use Rattle.listing.specs.declared.capture.ListAnswer.the-variants.{Listed, Refused}
 use Rattle.listing.specs.Listing.{meant}
-use Rattle.listing.specs.Text.{Wrote}
+use Rattle.text.proofs.Once.{wrote-once}
 use Rattle.listing.proofs.capture.list.Reads as list
 use Rattle.listing.proofs.capture.list_length.Reads as list-length
 use Rattle.listing.proofs.capture.put_notification.Reads as put-notification
@@ -31,11 +31,6 @@ length-once κs a x y s t p q = p ∙ sym q
 
 pub start-once : Once start.Post
 start-once κs a x y s t p q = p ∙ sym q
-
--- one text at one place leaves one position and one content
-wrote-once : (out : List ℕ) (at : ℕ) (text left left′ : List ℕ) (next next′ : ℕ) → Wrote out at text left next → Wrote out at text left′ next′ →
-    (next ≡ next′) × (left ≡ left′)
-wrote-once out at text left left′ next next′ p q = (p .place ∙ sym (q .place), p .octets ∙ sym (q .octets))
 
 pub notification-once : Once put-notification.Post × LeftOnce put-notification.Post (λ κs s. now (s .0))
 notification-once = (

@@ -8,8 +8,8 @@ use borrow.Author.Tests.{le-leb, lt-leb}
 use lib.ListN.{length, drop}
 use Rattle.record.specs.Answer.{Answer, refused, given}
 use Rattle.listing.specs.Listing.{answer-of, lent-after}
-use Rattle.listing.specs.Text.{Wrote, top}
-use Rattle.listing.proofs.Writing.{roomy}
+use Rattle.text.specs.Text.{Wrote, top}
+use Rattle.text.proofs.Writing.{roomy}
 
 module _ (out text : List ℕ) (n : ℕ) (p : n ≡ min (length text) top) where
   pub too-short : length out < n → (_≡_ {A = Answer ℕ} (refused 14) (answer-of text (length out))) × (out ≡ lent-after text out)

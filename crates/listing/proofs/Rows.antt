@@ -1,6 +1,5 @@
--- Rows of a table that a function was mapped over, keys that were padded, and the lines of rows. Assumes nothing.
+-- The texts of numbers, and the lines of rows. Assumes nothing.
 use Prim.Native.Nat.{ℕ, zero, suc, _+_, _-_, _%_, _^_, _<_, _≤_}
-use Prim.Native.String.{String}
 use mathlib.Core.Path.{_≡_, refl, sym}
 use mathlib.Core.List.{List, [], _∷_, _++_, map, append-nil, append-assoc}
 use mathlib.Core.Bool.{true, false, cond}
@@ -16,25 +15,10 @@ use Rattle.record.specs.Layout.{layout}
 use Rattle.record.specs.Groups.{has, optional}
 use Rattle.record.specs.Record.{wire}
 use Rattle.record.specs.Octets as Octets
-use Rattle.listing.specs.declared.names.Key.{Key}
 use Rattle.listing.specs.Lines.{value, field-line, field-lines, head-lines, record-lines}
-use Rattle.listing.specs.Names.{padded, name}
-use Rattle.listing.specs.Text.{ascii, decimal, integer, line, Wrote}
-use Rattle.listing.proofs.Writing.{then}
-
--- an element within the length, whatever is read past the end
-pub mapped : {A B : Type 0} (f : A → B) (l : List A) (i : ℕ) (d : B) (e : A) → i < length l → getD (map f l) i d ≡ f (getD l i e)
-mapped f [] i d e h = absurd (not-suc-le-zero h)
-mapped f (x ∷ l) zero d e h = refl
-mapped f (x ∷ l) (suc i) d e h = mapped f l i d e (le-of-suc-le-suc h)
-
-pub key-fits : (k : Key) (s : String) → k ≡ padded s → k .0 ≤ length (k .1)
-unfolding padded
-key-fits k s e = rw e (simp length-append (omega arith))
-
-pub key-text : (k : Key) (s : String) → k ≡ padded s → take (k .0) (k .1) ≡ ascii s
-unfolding padded
-key-text k s e = rw e (take-append-seam _ _)
+use Rattle.text.specs.Names.{name}
+use Rattle.text.specs.Text.{ascii, decimal, integer, line, Wrote}
+use Rattle.text.proofs.Writing.{then}
 
 -- the text of sixteen bits, below 32,768 and from there on
 pub plain-text : (n : ℕ) → n < 32768 → integer (Octets.signed n) ≡ decimal n

@@ -12,7 +12,7 @@ use Rattle.record.specs.Octets.{number}
 use Rattle.listing.specs.declared.capture.Listing.{Listing}
 use Rattle.listing.specs.Lines.{refused-line}
 use Rattle.listing.specs.Listing.{begins, lines-of, state-after, first, notifications, from-kind, listing}
-use Rattle.listing.specs.Text.{Wrote, top}
+use Rattle.text.specs.Text.{Wrote, top}
 use Rattle.listing.proofs.Partly.{Partly, begin, more, last, finished}
 
 -- the listing of nothing, of a capture that ends inside a length or notification, and of one more notification

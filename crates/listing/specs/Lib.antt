@@ -1,5 +1,3 @@
-pub mod Text
-pub mod Names
 pub mod Lines
 pub mod Listing
 pub mod Samples

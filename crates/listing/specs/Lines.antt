@@ -11,8 +11,8 @@ use Rattle.record.specs.Layout.{layout}
 use Rattle.record.specs.Groups.{has, optional}
 use Rattle.record.specs.Octets.{signed}
 use Rattle.record.specs.Record.{wire}
-use Rattle.listing.specs.Names.{name}
-use Rattle.listing.specs.Text.{ascii, decimal, integer, line}
+use Rattle.text.specs.Names.{name}
+use Rattle.text.specs.Text.{ascii, decimal, integer, line}
 
 -- the text of a field's wire number: "Numbers print as they stand, negative ones after `-`."
 abbrev pub value : Width → ℕ → List ℕ

@@ -6,8 +6,8 @@ use Rattle.record.specs.Groups.{has, named, size, groups-of, listed}
 use Rattle.record.specs.Octets.{number}
 use Rattle.record.specs.Notification.{part-of, read-into, values}
 use Rattle.service.specs.Collector.{joins, collect}
-use Rattle.listing.specs.Text.{ascii, decimal, integer, line}
-use Rattle.listing.specs.Names.{name, names}
+use Rattle.text.specs.Text.{ascii, decimal, integer, line}
+use Rattle.text.specs.Names.{name, names}
 use Rattle.listing.specs.Lines.{field-line, head-lines, record-lines, refused-line}
 use Rattle.listing.specs.Listing.{begins, notifications, from-kind, listing}
 

@@ -14,7 +14,7 @@ ghost use Prim.Native.Nat.{min};
 ghost use lib.ListN.{length, drop};
 ghost use Rattle.service.specs.Collector.{meant};
 ghost use Rattle.listing.specs.Listing.{said-lines, number-after as Listing·number-after, begins, lines-of, state-after, notifications, listing, meant as Listing·meant, answer-of, lent-after};
-ghost use Rattle.listing.specs.Text.{Wrote, top};
+ghost use Rattle.text.specs.Text.{Wrote, top};
 
 // "36: capture above 65,536 octets".
 pub const LONGEST_CAPTURE: usize = 65536;

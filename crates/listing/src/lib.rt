@@ -1,5 +1,3 @@
 // The listing of a capture: lines of text, one for each thing that a record or a refusal says.
 pub mod capture;
 pub mod lines;
-mod names;
-mod text;

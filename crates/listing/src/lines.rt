@@ -1,14 +1,14 @@
 // The lines of a record and of a refusal.
-use crate::names::DIRECTION;
-use crate::names::GROUPS;
-use crate::names::KIND;
-use crate::names::RECORD;
-use crate::names::REFUSED;
-use crate::names::put_name;
-use crate::text::LF;
-use crate::text::put_byte;
-use crate::text::put_decimal;
-use crate::text::put_line;
+use text::names::DIRECTION;
+use text::names::GROUPS;
+use text::names::KIND;
+use text::names::RECORD;
+use text::names::REFUSED;
+use text::names::put_name;
+use text::text::LF;
+use text::text::put_byte;
+use text::text::put_decimal;
+use text::text::put_line;
 use record::groups::has;
 use record::layout::Row;
 use record::layout::Width;
@@ -24,7 +24,7 @@ ghost use Rattle.record.specs.Layout.{layout};
 ghost use Rattle.record.specs.Octets.{signed};
 ghost use Rattle.record.specs.Refusal.{number-of};
 ghost use Rattle.listing.specs.Lines.{value, field-line, field-lines, head-lines, record-lines, refused-line};
-ghost use Rattle.listing.specs.Text.{Wrote, integer};
+ghost use Rattle.text.specs.Text.{Wrote, integer};
 
 // The octet before a negative number.
 const MINUS: u8 = 45;

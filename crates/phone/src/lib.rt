@@ -9,7 +9,7 @@ use listing::capture::list_length;
 ghost use mathlib.Core.Path.{_≡_};
 ghost use Prim.Native.Nat.{min};
 ghost use lib.ListN.{length};
-ghost use Rattle.listing.specs.Text.{top};
+ghost use Rattle.text.specs.Text.{top};
 ghost use Rattle.listing.specs.Listing.{listing, meant, answer-of, lent-after};
 ghost use Rattle.phone.specs.Host.{code, told, split-answer, split-lent};
 

@@ -3,7 +3,7 @@ use Prim.Native.Nat.{ℕ, min}
 use mathlib.Core.Path.{ap, _∙_}
 use native.Mathlib.Nat.{zero-add}
 use borrow.Author.Needs.{needs}
-use Rattle.listing.specs.Text.{top}
+use Rattle.text.specs.Text.{top}
 use Rattle.listing.proofs.capture.list_length.Statement.{statement}
 use Rattle.listing.proofs.capture.list_length.Tie as tie
 

@@ -1,7 +1,7 @@
 -- `put_answer` meets its contract, answer by answer. Assumes nothing.
 use borrow.Author.Needs.{needs}
 use native.Mathlib.Omega.{arith}
-use Rattle.listing.proofs.Writing.{nothing}
+use Rattle.text.proofs.Writing.{nothing}
 use Rattle.listing.proofs.capture.put_answer.Statement.{statement}
 use Rattle.listing.proofs.capture.put_answer.Tie as tie
 

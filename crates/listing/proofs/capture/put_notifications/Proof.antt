@@ -5,7 +5,7 @@ use native.Mathlib.Omega.{arith}
 use borrow.Author.Needs.{needs}
 use lib.ListN.{length, drop}
 use Rattle.listing.specs.Listing.{begins, notifications}
-use Rattle.listing.proofs.Writing.{keeps}
+use Rattle.text.proofs.Writing.{keeps}
 use Rattle.listing.proofs.Walked.{Walked, starts, ends, breaks, turns}
 use Rattle.listing.proofs.capture.put_notifications.Statement.{statement}
 use Rattle.listing.proofs.capture.put_notifications.Tie as tie

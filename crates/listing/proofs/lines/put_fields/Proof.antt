@@ -7,8 +7,8 @@ use borrow.Author.Needs.{needs}
 use lib.ListN.{length, take}
 use Rattle.record.specs.Layout.{layout, no-row}
 use Rattle.listing.specs.Lines.{field-lines, field-line}
-use Rattle.listing.specs.Text.{Wrote}
-use Rattle.listing.proofs.Writing.{nothing}
+use Rattle.text.specs.Text.{Wrote}
+use Rattle.text.proofs.Writing.{nothing}
 use Rattle.listing.proofs.Rows.{next-row, all-rows}
 use Rattle.listing.proofs.lines.put_fields.Statement.{statement}
 use Rattle.listing.proofs.lines.put_fields.Tie as tie

@@ -1,7 +1,7 @@
 -- `put_head` meets its contract: four lines. Assumes nothing.
 use borrow.Author.Needs.{needs}
 use Rattle.listing.specs.Lines.{head-lines}
-use Rattle.listing.proofs.Writing.{then}
+use Rattle.text.proofs.Writing.{then}
 use Rattle.listing.proofs.lines.put_head.Statement.{statement}
 use Rattle.listing.proofs.lines.put_head.Tie as tie
 

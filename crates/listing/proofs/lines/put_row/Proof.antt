@@ -2,8 +2,8 @@
 use mathlib.Core.Path.{_∙_, sym}
 use native.Mathlib.Omega.{arith}
 use borrow.Author.Needs.{needs}
-use Rattle.listing.specs.Text.{line}
-use Rattle.listing.proofs.Writing.{then, nothing}
+use Rattle.text.specs.Text.{line}
+use Rattle.text.proofs.Writing.{then, nothing}
 use Rattle.listing.proofs.Rows.{shown, hidden}
 use Rattle.listing.proofs.lines.put_row.Statement.{statement}
 use Rattle.listing.proofs.lines.put_row.Tie as tie

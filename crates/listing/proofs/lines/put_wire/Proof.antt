@@ -1,7 +1,7 @@
 -- `put_wire` meets its contract. Assumes nothing.
 use borrow.Author.Needs.{needs}
 use native.Mathlib.Omega.{arith}
-use Rattle.listing.proofs.Writing.{then}
+use Rattle.text.proofs.Writing.{then}
 use Rattle.listing.proofs.Rows.{plain-text, minus-text}
 use Rattle.listing.proofs.lines.put_wire.Statement.{statement}
 use Rattle.listing.proofs.lines.put_wire.Tie as tie

@@ -3,10 +3,10 @@ use mathlib.Core.Path.{_≡_, sym, ap}
 use native.Mathlib.Omega.{arith}
 use borrow.Author.Needs.{needs}
 use lib.ListN.{List·getD-eq-default}
-use Rattle.listing.specs.Names.{names, padded}
-use Rattle.listing.proofs.Rows.{mapped}
-use Rattle.listing.proofs.names.key_of.Statement.{statement}
-use Rattle.listing.proofs.names.key_of.Tie as tie
+use Rattle.text.specs.Names.{names, padded}
+use Rattle.text.proofs.Keys.{mapped}
+use Rattle.text.proofs.names.key_of.Statement.{statement}
+use Rattle.text.proofs.names.key_of.Tie as tie
 
 returns : tie.Need-returns
 unfolding names padded

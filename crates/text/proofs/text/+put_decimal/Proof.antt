@@ -4,14 +4,14 @@ use native.Mathlib.Omega.{arith}
 use borrow.Author.Needs.{needs}
 use borrow.Fn.Kinds.{In}
 use borrow.Fn.PlainCycle.{Measures, is, falls, and}
-use Rattle.listing.proofs.Writing.{then, one-digit, more-digits}
-use Rattle.listing.proofs.text.put_decimal.Reads as own
-use Rattle.listing.proofs.text.put_decimal.Kinds as kinds
-use Rattle.listing.proofs.text.+put_decimal.Lts-put_decimal as lts
-use Rattle.listing.proofs.text.digit.Reads as digit
-use Rattle.listing.proofs.text.put_byte.Reads as put-byte
-use Rattle.listing.proofs.text.+put_decimal.{statement}
-use Rattle.listing.proofs.text.+put_decimal.Tie.{close}
+use Rattle.text.proofs.Writing.{then, one-digit, more-digits}
+use Rattle.text.proofs.text.put_decimal.Reads as own
+use Rattle.text.proofs.text.put_decimal.Kinds as kinds
+use Rattle.text.proofs.text.+put_decimal.Lts-put_decimal as lts
+use Rattle.text.proofs.text.digit.Reads as digit
+use Rattle.text.proofs.text.put_byte.Reads as put-byte
+use Rattle.text.proofs.text.+put_decimal.{statement}
+use Rattle.text.proofs.text.+put_decimal.Tie.{close}
 
 abbrev μ : Measures 1 kinds.ps ℕ
 μ κs a = a .1 .1 .0

@@ -3,8 +3,8 @@ use crate::text::put_bytes;
 ghost use mathlib.Core.Path.{_≡_};
 ghost use Prim.Native.Nat.{_≤_};
 ghost use lib.ListN.{length, take, getD};
-ghost use Rattle.listing.specs.Names.{name, names, padded};
-ghost use Rattle.listing.specs.Text.{Wrote};
+ghost use Rattle.text.specs.Names.{name, names, padded};
+ghost use Rattle.text.specs.Text.{Wrote};
 
 pub const RECORD: [u8; 7] = *b"record=";
 

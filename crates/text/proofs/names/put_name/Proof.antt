@@ -1,9 +1,9 @@
 -- `put_name` meets its contract: the first octets of a padded name are the name. Assumes nothing.
 use borrow.Author.Needs.{needs}
-use Rattle.listing.specs.Names.{name}
-use Rattle.listing.proofs.Rows.{key-fits, key-text}
-use Rattle.listing.proofs.names.put_name.Statement.{statement}
-use Rattle.listing.proofs.names.put_name.Tie as tie
+use Rattle.text.specs.Names.{name}
+use Rattle.text.proofs.Keys.{key-fits, key-text}
+use Rattle.text.proofs.names.put_name.Statement.{statement}
+use Rattle.text.proofs.names.put_name.Tie as tie
 
 pub put-name-spec : {M : Type 1} → statement M
 unfolding name

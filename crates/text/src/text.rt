@@ -2,7 +2,7 @@
 ghost use mathlib.Core.Path.{_≡_};
 ghost use Prim.Native.Nat.{_+_, _%_};
 ghost use mathlib.Core.List.{[], _∷_};
-ghost use Rattle.listing.specs.Text.{Wrote, decimal, line};
+ghost use Rattle.text.specs.Text.{Wrote, decimal, line};
 
 // The largest usize: a position that has come there stays.
 const TOP: usize = 18446744073709551615;

@@ -3,9 +3,9 @@ use borrow.Author.Needs.{needs}
 use native.Mathlib.Omega.{arith}
 use mathlib.Core.Path.{_∙_, sym}
 use lib.Seq.{set-out}
-use Rattle.listing.proofs.Writing.{by-sets}
-use Rattle.listing.proofs.text.put_byte.Statement.{statement}
-use Rattle.listing.proofs.text.put_byte.Tie as tie
+use Rattle.text.proofs.Writing.{by-sets}
+use Rattle.text.proofs.text.put_byte.Statement.{statement}
+use Rattle.text.proofs.text.put_byte.Tie as tie
 
 slice-write-out : tie.Need-slice-write-out
 slice-write-out c = search needs

@@ -4,10 +4,10 @@ use mathlib.Core.Path.{_≡_, refl}
 use native.Mathlib.Omega.{arith}
 use borrow.Author.Needs.{needs}
 use lib.ListN.{length, take}
-use Rattle.listing.specs.Text.{Wrote}
-use Rattle.listing.proofs.Writing.{nothing, then-next, whole}
-use Rattle.listing.proofs.text.put_bytes.Statement.{statement}
-use Rattle.listing.proofs.text.put_bytes.Tie as tie
+use Rattle.text.specs.Text.{Wrote}
+use Rattle.text.proofs.Writing.{nothing, then-next, whole}
+use Rattle.text.proofs.text.put_bytes.Statement.{statement}
+use Rattle.text.proofs.text.put_bytes.Tie as tie
 
 abbrev Inv-loop : tie.InvT-loop
 Inv-loop out₀ at text next₀ i₀ i-end out next i =

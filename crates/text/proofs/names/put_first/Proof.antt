@@ -2,8 +2,8 @@
 use borrow.Author.Needs.{needs}
 use mathlib.Core.Path.{sym}
 use lib.Seq.{length-take-le}
-use Rattle.listing.proofs.names.put_first.Statement.{statement}
-use Rattle.listing.proofs.names.put_first.Tie as tie
+use Rattle.text.proofs.names.put_first.Statement.{statement}
+use Rattle.text.proofs.names.put_first.Tie as tie
 
 pub put-first-spec : {M : Type 1} → statement M
 put-first-spec =

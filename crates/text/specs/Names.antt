@@ -4,8 +4,8 @@ use Prim.Native.Nat.{ℕ, _-_}
 use Prim.Native.String.{String}
 use mathlib.Core.List.{List, [], _∷_, _++_}
 use lib.ListN.{length, getD, replicate}
-use Rattle.listing.specs.declared.names.Key.{Key}
-use Rattle.listing.specs.Text.{ascii}
+use Rattle.text.specs.declared.names.Key.{Key}
+use Rattle.text.specs.Text.{ascii}
 
 unfoldable pub names : List String
 names =

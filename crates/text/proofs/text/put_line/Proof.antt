@@ -1,9 +1,9 @@
 -- `put_line` meets its contract: the key, the value, LF. Assumes nothing.
 use borrow.Author.Needs.{needs}
-use Rattle.listing.specs.Text.{line}
-use Rattle.listing.proofs.Writing.{then}
-use Rattle.listing.proofs.text.put_line.Statement.{statement}
-use Rattle.listing.proofs.text.put_line.Tie as tie
+use Rattle.text.specs.Text.{line}
+use Rattle.text.proofs.Writing.{then}
+use Rattle.text.proofs.text.put_line.Statement.{statement}
+use Rattle.text.proofs.text.put_line.Tie as tie
 
 pub put-line-spec : {M : Type 1} → statement M
 unfolding line

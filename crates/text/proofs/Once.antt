@@ -1,0 +1,31 @@
+-- No second reply and no second content of what is lent meets a contract: for each public function, over the contract itself.
+use Prim.Native.Nat.{ℕ}
+use mathlib.Core.Path.{_≡_, sym, _∙_}
+use mathlib.Core.List.{List}
+use denote.Ref.{now}
+use Rattle.record.proofs.Once.{Once, LeftOnce}
+use Rattle.text.specs.Text.{Wrote}
+use Rattle.text.proofs.text.put_byte.Reads as put-byte
+use Rattle.text.proofs.text.put_bytes.Reads as put-bytes
+use Rattle.text.proofs.text.put_decimal.Reads as put-decimal
+use Rattle.text.proofs.text.put_line.Reads as put-line
+use Rattle.text.proofs.names.put_name.Reads as put-name
+
+-- one text at one place leaves one position and one content
+pub wrote-once : (out : List ℕ) (at : ℕ) (text left left′ : List ℕ) (next next′ : ℕ) → Wrote out at text left next → Wrote out at text left′ next′ →
+    (next ≡ next′) × (left ≡ left′)
+wrote-once out at text left left′ next next′ p q = (p .place ∙ sym (q .place), p .octets ∙ sym (q .octets))
+
+pub texts-once :
+    (Once put-byte.Post × LeftOnce put-byte.Post (λ κs s. now (s .0))) ×
+    (Once put-bytes.Post × LeftOnce put-bytes.Post (λ κs s. now (s .0))) ×
+    (Once put-decimal.Post × LeftOnce put-decimal.Post (λ κs s. now (s .0))) ×
+    (Once put-line.Post × LeftOnce put-line.Post (λ κs s. now (s .0))) ×
+    (Once put-name.Post × LeftOnce put-name.Post (λ κs s. now (s .0)))
+texts-once = (
+  (λ κs a x y s t p q. wrote-once _ _ _ _ _ _ _ p q .0, λ κs a x y s t p q. wrote-once _ _ _ _ _ _ _ p q .1),
+  (λ κs a x y s t p q. wrote-once _ _ _ _ _ _ _ p q .0, λ κs a x y s t p q. wrote-once _ _ _ _ _ _ _ p q .1),
+  (λ κs a x y s t p q. wrote-once _ _ _ _ _ _ _ p q .0, λ κs a x y s t p q. wrote-once _ _ _ _ _ _ _ p q .1),
+  (λ κs a x y s t p q. wrote-once _ _ _ _ _ _ _ p q .0, λ κs a x y s t p q. wrote-once _ _ _ _ _ _ _ p q .1),
+  (λ κs a x y s t p q. wrote-once _ _ _ _ _ _ _ p q .0, λ κs a x y s t p q. wrote-once _ _ _ _ _ _ _ p q .1),
+)
