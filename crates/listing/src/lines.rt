@@ -1,4 +1,12 @@
 // The lines of a record and of a refusal.
+use record::groups::has;
+use record::layout::Row;
+use record::layout::Width;
+use record::layout::row_count;
+use record::layout::row_of;
+use record::numbers::numbers_of;
+use record::record::Record;
+use record::refusal::Refusal;
 use text::names::DIRECTION;
 use text::names::GROUPS;
 use text::names::KIND;
@@ -9,14 +17,6 @@ use text::text::LF;
 use text::text::put_byte;
 use text::text::put_decimal;
 use text::text::put_line;
-use record::groups::has;
-use record::layout::Row;
-use record::layout::Width;
-use record::layout::row_count;
-use record::layout::row_of;
-use record::numbers::numbers_of;
-use record::record::Record;
-use record::refusal::Refusal;
 ghost use mathlib.Core.Path.{_≡_};
 ghost use Prim.Native.Nat.{_%_, _^_};
 ghost use lib.ListN.{getD};

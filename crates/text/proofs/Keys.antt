@@ -5,10 +5,10 @@ use mathlib.Core.Path.{_≡_, refl}
 use mathlib.Core.List.{List, [], _∷_, map}
 use native.Mathlib.Nat.{not-suc-le-zero, le-of-suc-le-suc}
 use native.Mathlib.Omega.{arith}
-use lib.ListN.{length, getD, take, length-append}
-use lib.Seq.{take-append-seam}
+use lib.ListN.{length, getD, take, replicate, length-append}
+use lib.Seq.{take-append-seam, take-append-le}
 use Rattle.text.specs.declared.names.Key.{Key}
-use Rattle.text.specs.Names.{padded}
+use Rattle.text.specs.Names.{names, name, bare, padded}
 use Rattle.text.specs.Text.{ascii}
 
 -- an element within the length, whatever is read past the end
@@ -24,3 +24,12 @@ key-fits k s e = rw e (simp length-append (omega arith))
 pub key-text : (k : Key) (s : String) → k ≡ padded s → take (k .0) (k .1) ≡ ascii s
 unfolding padded
 key-text k s e = rw e (take-append-seam _ _)
+
+-- all but the last octet of a key
+pub key-front : (k : Key) (f : ℕ) → k ≡ padded (getD names f "") → take (k .0 - 1) (k .1) ≡ bare f
+unfolding padded name bare
+key-front k f e = let s = ascii (getD names f "") in rw e (take-append-le (length s - 1) s (replicate (21 - length s) 32) (omega arith))
+
+pub no-key : (k : Key) (f : ℕ) → k ≡ padded (getD names f "") → k .0 ≡ 0 → bare f ≡ []
+unfolding padded name bare
+no-key k f e z = let n : length (ascii (getD names f "")) ≡ 0 = rw e at z in rw n

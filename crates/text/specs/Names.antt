@@ -3,7 +3,7 @@
 use Prim.Native.Nat.{ℕ, _-_}
 use Prim.Native.String.{String}
 use mathlib.Core.List.{List, [], _∷_, _++_}
-use lib.ListN.{length, getD, replicate}
+use lib.ListN.{length, getD, take, replicate}
 use Rattle.text.specs.declared.names.Key.{Key}
 use Rattle.text.specs.Text.{ascii}
 
@@ -18,6 +18,10 @@ names =
 unfoldable pub name : ℕ → List ℕ
 unfolding names
 name field = ascii (getD names field "")
+
+-- the name of a field: its key without the `=`
+unfoldable pub bare : ℕ → List ℕ
+bare field = take (length (name field) - 1) (name field)
 
 -- a key as a row of the code's table: its length, and its octets with spaces behind, 21 in all
 unfoldable pub padded : String → Key

@@ -31,6 +31,13 @@ unfoldable pub integer : ℤ → List ℕ
 integer (pos n) = decimal n
 integer (negsuc n) = L._∷_ 45 (decimal (suc n))
 
+-- "wire octets are in hex": a digit, and an octet as two of them
+abbrev pub hex-digit : ℕ → ℕ
+hex-digit n = cond (ltb (n % 16) 10) (48 + n % 16) (55 + n % 16)
+
+unfoldable pub hex : ℕ → List ℕ
+hex b = L._∷_ (hex-digit (b / 16)) (L._∷_ (hex-digit b) L.[])
+
 -- a line: a key with its `=`, a value, and LF
 unfoldable pub line : List ℕ → List ℕ → List ℕ
 line key value = key ++ value ++ (L._∷_ 10 L.[])

@@ -3,7 +3,7 @@ use crate::text::put_bytes;
 ghost use mathlib.Core.Path.{_≡_};
 ghost use Prim.Native.Nat.{_≤_};
 ghost use lib.ListN.{length, take, getD};
-ghost use Rattle.text.specs.Names.{name, names, padded};
+ghost use Rattle.text.specs.Names.{name, bare, names, padded};
 ghost use Rattle.text.specs.Text.{Wrote};
 
 pub const RECORD: [u8; 7] = *b"record=";
@@ -79,4 +79,17 @@ pub fn put_name(out: &mut [u8], at: usize, field: usize) -> usize
     let n = key.0;
     let text = key.1;
     put_first(out, at, &text, n)
+}
+
+// The name of a field: its key without the `=`.
+pub fn put_field(out: &mut [u8], at: usize, field: usize) -> usize
+    ensures { λ r. ⌜ Wrote (now (out .entry)) at (bare field) (now (out .exit)) r ⌝ }
+{
+    let key = key_of(field);
+    let n = key.0;
+    let text = key.1;
+    if n == 0 {
+        return at;
+    }
+    put_first(out, at, &text, n - 1)
 }

@@ -2,7 +2,7 @@
 ghost use mathlib.Core.Path.{_≡_};
 ghost use Prim.Native.Nat.{_+_, _%_};
 ghost use mathlib.Core.List.{[], _∷_};
-ghost use Rattle.text.specs.Text.{Wrote, decimal, line};
+ghost use Rattle.text.specs.Text.{Wrote, decimal, hex-digit, hex, line};
 
 // The largest usize: a position that has come there stays.
 const TOP: usize = 18446744073709551615;
@@ -49,6 +49,25 @@ pub fn put_decimal(out: &mut [u8], at: usize, n: u32) -> usize
     }
     let next = put_decimal(out, at, n / 10);
     put_byte(out, next, digit(n))
+}
+
+// A hexadecimal digit, in capitals.
+fn hex_digit(n: u8) -> u8
+    ensures { λ r. ⌜ r ≡ hex-digit n ⌝ }
+{
+    let d = n % 16;
+    if d < 10 {
+        return 48 + d;
+    }
+    55 + d
+}
+
+// An octet as two hexadecimal digits.
+pub fn put_hex(out: &mut [u8], at: usize, b: u8) -> usize
+    ensures { λ r. ⌜ Wrote (now (out .entry)) at (hex b) (now (out .exit)) r ⌝ }
+{
+    let next = put_byte(out, at, hex_digit(b / 16));
+    put_byte(out, next, hex_digit(b))
 }
 
 // A line: a key, a number, LF.

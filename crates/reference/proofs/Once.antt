@@ -1,0 +1,14 @@
+-- No second reply and no second content of what is lent meets a contract: for each public function, over the contract itself.
+use denote.Ref.{now}
+use Rattle.record.proofs.Once.{Once, LeftOnce}
+use Rattle.text.proofs.Once.{wrote-once}
+use Rattle.reference.proofs.tables.put_table.Reads as put-table
+use Rattle.reference.proofs.tables.put_page.Reads as put-page
+
+pub tables-once :
+    (Once put-table.Post × LeftOnce put-table.Post (λ κs s. now (s .0))) ×
+    (Once put-page.Post × LeftOnce put-page.Post (λ κs s. now (s .0)))
+tables-once = (
+  (λ κs a x y s t p q. wrote-once _ _ _ _ _ _ _ p q .0, λ κs a x y s t p q. wrote-once _ _ _ _ _ _ _ p q .1),
+  (λ κs a x y s t p q. wrote-once _ _ _ _ _ _ _ p q .0, λ κs a x y s t p q. wrote-once _ _ _ _ _ _ _ p q .1),
+)

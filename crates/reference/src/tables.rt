@@ -1,0 +1,128 @@
+// The table of a kind: a line for each row of its layout, in the order of the wire.
+use crate::words::put_group;
+use crate::words::put_unit;
+use crate::words::put_width;
+use record::groups::flags_length;
+use record::groups::groups_length;
+use record::groups::listed;
+use record::layout::CROSS_TRAINER;
+use record::layout::INDOOR_BIKE;
+use record::layout::ROWER;
+use record::layout::Row;
+use record::layout::STAIR_CLIMBER;
+use record::layout::STEP_CLIMBER;
+use record::layout::TREADMILL;
+use record::layout::octets;
+use record::layout::row_count;
+use record::layout::row_of;
+use text::names::put_field;
+use text::text::put_bytes;
+use text::text::put_decimal;
+ghost use Rattle.text.specs.Text.{Wrote, ascii};
+ghost use Rattle.reference.specs.Tables.{row-names, row-place, row-line, table, kind-word, title, sizes, page};
+
+// The table's own heading.
+const COLUMNS: [u8; 73] =
+    *b"| bit | group | field | width | octet | unit |\n|---|---|---|---|---|---|\n";
+
+// The first cells of a row: bit, group, field.
+fn put_names(out: &mut [u8], at: usize, kind: u8, row: Row) -> usize
+    ensures { λ r. ⌜ Wrote (now (out .entry)) at (row-names kind row) (now (out .exit)) r ⌝ }
+{
+    let bit = row.0 as u32;
+    let field = row.1 as usize;
+    let a = put_bytes(out, at, b"| ");
+    let b = put_decimal(out, a, bit);
+    let c = put_bytes(out, b, b" | ");
+    let d = put_group(out, c, kind, row);
+    let e = put_bytes(out, d, b" | ");
+    put_field(out, e, field)
+}
+
+// The other cells: width, octet, unit.
+fn put_place(out: &mut [u8], at: usize, offset: u32, row: Row) -> usize
+    ensures { λ r. ⌜ Wrote (now (out .entry)) at (row-place offset row) (now (out .exit)) r ⌝ }
+{
+    let field = row.1;
+    let width = row.2;
+    let a = put_bytes(out, at, b" | ");
+    let b = put_width(out, a, width);
+    let c = put_bytes(out, b, b" | ");
+    let d = put_decimal(out, c, offset);
+    let e = put_bytes(out, d, b" | ");
+    let f = put_unit(out, e, field);
+    put_bytes(out, f, b"|\n")
+}
+
+// The line of a row whose field begins at an octet.
+fn put_row(out: &mut [u8], at: usize, kind: u8, offset: u32, row: Row) -> usize
+    ensures { λ r. ⌜ Wrote (now (out .entry)) at (row-line kind offset row) (now (out .exit)) r ⌝ }
+{
+    let next = put_names(out, at, kind, row);
+    put_place(out, next, offset, row)
+}
+
+// The lines of a kind's rows, in the order of the wire, each with the octet at which its field begins when all groups are present.
+pub fn put_table(out: &mut [u8], at: usize, kind: u8) -> usize
+    ensures { λ r. ⌜ Wrote (now (out .entry)) at (table kind) (now (out .exit)) r ⌝ }
+{
+    let n = row_count(kind);
+    let mut next = at;
+    let mut offset = flags_length(kind) as u32;
+    for i in 0..n {
+        let row = row_of(kind, i);
+        let width = row.2;
+        next = put_row(out, next, kind, offset, row);
+        offset += octets(width) as u32;
+    }
+    next
+}
+
+// The name of a kind.
+fn put_kind(out: &mut [u8], at: usize, kind: u8) -> usize
+    ensures { λ r. ⌜ Wrote (now (out .entry)) at (ascii (kind-word kind)) (now (out .exit)) r ⌝ }
+{
+    match kind {
+        TREADMILL => put_bytes(out, at, b"treadmill"),
+        CROSS_TRAINER => put_bytes(out, at, b"cross trainer"),
+        STEP_CLIMBER => put_bytes(out, at, b"step climber"),
+        STAIR_CLIMBER => put_bytes(out, at, b"stair climber"),
+        ROWER => put_bytes(out, at, b"rower"),
+        INDOOR_BIKE => put_bytes(out, at, b"indoor bike"),
+        _ => at,
+    }
+}
+
+// A page's heading.
+fn put_title(out: &mut [u8], at: usize, kind: u8) -> usize
+    ensures { λ r. ⌜ Wrote (now (out .entry)) at (title kind) (now (out .exit)) r ⌝ }
+{
+    let a = put_bytes(out, at, b"# Kind ");
+    let b = put_decimal(out, a, kind as u32);
+    let c = put_bytes(out, b, b": ");
+    let d = put_kind(out, c, kind);
+    put_bytes(out, d, b"\n\n")
+}
+
+// The octets of the flags, and of a notification with all groups.
+fn put_sizes(out: &mut [u8], at: usize, kind: u8) -> usize
+    ensures { λ r. ⌜ Wrote (now (out .entry)) at (sizes kind) (now (out .exit)) r ⌝ }
+{
+    let flags = flags_length(kind);
+    let all = flags + groups_length(kind, listed(kind) + 1);
+    let a = put_bytes(out, at, b"Flags: ");
+    let b = put_decimal(out, a, flags as u32);
+    let c = put_bytes(out, b, b" octets. With all groups present: ");
+    let d = put_decimal(out, c, all as u32);
+    put_bytes(out, d, b" octets.\n\n")
+}
+
+// The page of a kind: its heading, its sizes and its table.
+pub fn put_page(out: &mut [u8], at: usize, kind: u8) -> usize
+    ensures { λ r. ⌜ Wrote (now (out .entry)) at (page kind) (now (out .exit)) r ⌝ }
+{
+    let a = put_title(out, at, kind);
+    let b = put_sizes(out, a, kind);
+    let c = put_bytes(out, b, &COLUMNS);
+    put_table(out, c, kind)
+}
