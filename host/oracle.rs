@@ -1,5 +1,5 @@
 // Writes cases from a fixed seed, each with what must come of it, for `compare` to hold the library to. With arguments: `capture SIZE` writes a
-// capture of that size, of kind 1 + SIZE mod 6, and `list` the listing of the capture on standard input.
+// capture of that size, of kind 1 + SIZE mod 6; `list` the listing of the capture on standard input; `whole KIND` and `full KIND` what `bench` takes.
 mod rules;
 
 use rules::{group_octets, layout, listing, notification, pieces, split, Groups};
@@ -150,6 +150,24 @@ fn list_case(out: &mut impl Write, c: &mut Chance, least: usize) -> io::Result<(
     put_list(out, &capture, c)
 }
 
+// A capture of whole records in parts of 20 octets, none damaged and none missing: as many as 64 KiB hold, with the kind as the seed.
+fn whole_capture(kind: u32) -> Vec<u8> {
+    let mut c = Chance(kind as u64);
+    let mut capture = vec![kind as u8];
+    loop {
+        let before = capture.len();
+        let (record, direction) = any_record(&mut c, kind);
+        for s in pieces(kind, &record, direction, 20) {
+            capture.extend((s.len() as u16).to_le_bytes());
+            capture.extend(s);
+        }
+        if capture.len() > 65536 {
+            capture.truncate(before);
+            return capture;
+        }
+    }
+}
+
 // A record with all groups of its kind, as one notification.
 fn full_record(kind: u32) -> Vec<u8> {
     let octets = |bit, group| (0..group_octets(group)).map(|i| (bit * 16 + i) as u8).collect();
@@ -195,10 +213,16 @@ fn main() -> io::Result<()> {
     let mut out = BufWriter::new(io::stdout().lock());
     let mut c = Chance(2026);
     let arguments: Vec<String> = std::env::args().skip(1).collect();
+    let number = || arguments[1].parse().unwrap();
     match arguments.first().map(String::as_str) {
         Some("capture") => {
-            let size: u32 = arguments[1].parse().unwrap();
+            let size = number();
             out.write_all(&any_capture(&mut c, 1 + size % 6, size as usize)[..size as usize])
+        }
+        Some("whole") => out.write_all(&whole_capture(number())),
+        Some("full") => {
+            out.write_all(&[number() as u8])?;
+            out.write_all(&full_record(number()))
         }
         Some(_) => {
             let mut capture = vec![];
