@@ -1,12 +1,20 @@
-/* Holds the library to cases on standard input, which `oracle` writes: each reply, each number and every octet, with guards around what is lent. */
+/* Holds the library to cases on standard input, which `oracle` writes: each reply, each number and every octet, in areas that show one too many. */
 #include <stdio.h>
 #include <stdlib.h>
 #include <string.h>
 
+#include "areas.h"
 #include "hordivasz.h"
 
-#define GUARD 32
-#define STOOD ((size_t)0x5a5a5a5a)
+/* A case of either call: what is handed in, and what must come of it. */
+struct split_case {
+    size_t kind, payload, part, lent, record_length, refusal, parts, length;
+    uint8_t *record, *piece;
+};
+struct list_case {
+    size_t capture_length, lent, refusal, length;
+    uint8_t *capture, *text;
+};
 
 static unsigned long cases;
 
@@ -24,21 +32,12 @@ static void same(const char *what, size_t expected, size_t found)
     }
 }
 
-static void *area(size_t length)
-{
-    void *octets = malloc(length + 1);
-    if (octets == NULL) {
-        differs("no memory");
-    }
-    return octets;
-}
-
 /* The next octets of the input. */
 static uint8_t *octets(size_t length)
 {
-    uint8_t *read = area(length);
-    if (fread(read, 1, length, stdin) != length) {
-        differs("the input ends early");
+    uint8_t *read = malloc(length + 1);
+    if (read == NULL || fread(read, 1, length, stdin) != length) {
+        differs("no memory, or the input ends early");
     }
     return read;
 }
@@ -56,65 +55,118 @@ static size_t number(void)
     return n;
 }
 
-/* An area to lend, with guards before and behind it. */
-static uint8_t *lendable(size_t lent)
+/* An area to lend. */
+static struct area lent(enum use use, enum side side, size_t length)
 {
-    uint8_t *all = area(lent + 2 * GUARD);
-    size_t i;
-    for (i = 0; i < lent + 2 * GUARD; i++) {
-        all[i] = (uint8_t)(i * 7 + 3);
+    struct area a = area(use, side, length);
+    if (a.octets == NULL) {
+        differs("no room");
     }
-    return all;
+    return a;
 }
 
-/* The area holds what was written, and behind and around it what stood there. */
-static void same_area(uint8_t *all, size_t lent, const uint8_t *written, size_t length)
+/* An area with what is handed in. */
+static struct area handed(enum side side, const uint8_t *from, size_t length)
 {
-    uint8_t *before = lendable(lent);
-    memcpy(before + GUARD, written, length);
-    if (memcmp(before, all, lent + 2 * GUARD) != 0) {
-        differs("the octets lent");
+    struct area a = lent(INPUT, side, length);
+    memcpy(a.octets, from, length);
+    return a;
+}
+
+/* What an area holds after a call, octet for octet. */
+static void settle(const char *what, struct area *a, const uint8_t *written, size_t length)
+{
+    if (!area_holds(a, written, length)) {
+        differs(what);
     }
-    free(before);
-    free(all);
+    area_done(a);
+}
+
+/* A number handed out where the call was not refused, and left as it was where it was. */
+static void settle_number(const char *what, struct area *a, size_t refusal, size_t expected)
+{
+    uint8_t written[sizeof expected];
+    memcpy(written, &expected, sizeof expected);
+    settle(what, a, written, refusal == 0 ? sizeof expected : 0);
+}
+
+static size_t *as_number(struct area *a)
+{
+    return (size_t *)(void *)a->octets;
+}
+
+static void try_split(const struct split_case *c, enum side side)
+{
+    struct area record = handed(side, c->record, c->record_length);
+    struct area out = lent(OUTPUT, side, c->lent);
+    struct area length = lent(LENGTH, side, sizeof(size_t));
+    struct area parts = lent(PARTS, side, sizeof(size_t));
+    uint32_t found = hordivasz_split((uint32_t)c->kind, record.octets, c->record_length, c->payload, c->part, out.octets, c->lent,
+                                     as_number(&length), as_number(&parts));
+    same("what split returns", c->refusal, found);
+    settle("the record", &record, c->record, c->record_length);
+    settle("the octets lent for a part", &out, c->piece, c->length);
+    settle_number("the length of the part", &length, c->refusal, c->length);
+    settle_number("the number of parts", &parts, c->refusal, c->parts);
 }
 
 static void split_case(void)
 {
-    size_t kind = number(), payload = number(), part = number(), lent = number(), record_length = number();
-    uint8_t *record = octets(record_length);
-    size_t refusal = number(), parts = number(), length = number();
-    uint8_t *piece = octets(length);
-    uint8_t *all = lendable(lent);
-    size_t found_length = STOOD, found_parts = STOOD;
-    uint32_t found = hordivasz_split((uint32_t)kind, record, record_length, payload, part, all + GUARD, lent, &found_length, &found_parts);
-    same("what split returns", refusal, found);
-    same("the length of the part", refusal == 0 ? length : STOOD, found_length);
-    same("the number of parts", refusal == 0 ? parts : STOOD, found_parts);
-    same_area(all, lent, piece, length);
-    free(record);
-    free(piece);
+    struct split_case c;
+    int side;
+    c.kind = number();
+    c.payload = number();
+    c.part = number();
+    c.lent = number();
+    c.record_length = number();
+    c.record = octets(c.record_length);
+    c.refusal = number();
+    c.parts = number();
+    c.length = number();
+    c.piece = octets(c.length);
+    for (side = 0; side < SIDES; side++) {
+        try_split(&c, (enum side)side);
+    }
+    free(c.record);
+    free(c.piece);
+}
+
+static void try_list(const struct list_case *c, enum side side)
+{
+    struct area capture = handed(side, c->capture, c->capture_length);
+    struct area out = lent(OUTPUT, side, c->lent);
+    struct area length = lent(LENGTH, side, sizeof(size_t));
+    uint32_t found = hordivasz_list(capture.octets, c->capture_length, out.octets, c->lent, as_number(&length));
+    same("what list returns", c->refusal, found);
+    same("the length foretold", c->length, hordivasz_list_length(capture.octets, c->capture_length));
+    settle("the capture", &capture, c->capture, c->capture_length);
+    settle("the octets lent for a listing", &out, c->text, c->refusal == 0 ? c->length : 0);
+    settle_number("the length of the listing", &length, c->refusal, c->length);
 }
 
 static void list_case(void)
 {
-    size_t capture_length = number(), lent = number(), refusal = number(), length = number();
-    uint8_t *capture = octets(capture_length);
-    uint8_t *text = octets(length);
-    uint8_t *all = lendable(lent);
-    size_t found_length = STOOD;
-    uint32_t found = hordivasz_list(capture, capture_length, all + GUARD, lent, &found_length);
-    same("what list returns", refusal, found);
-    same("the length of the listing", refusal == 0 ? length : STOOD, found_length);
-    same("the length foretold", length, hordivasz_list_length(capture, capture_length));
-    same_area(all, lent, text, refusal == 0 ? length : 0);
-    free(capture);
-    free(text);
+    struct list_case c;
+    int side;
+    c.capture_length = number();
+    c.lent = number();
+    c.refusal = number();
+    c.length = number();
+    c.capture = octets(c.capture_length);
+    c.text = octets(c.length);
+    for (side = 0; side < SIDES; side++) {
+        try_list(&c, (enum side)side);
+    }
+    free(c.capture);
+    free(c.text);
 }
 
 int main(void)
 {
     size_t call;
+    if (!fences_hold()) {
+        differs("the fences stop nothing");
+    }
     for (call = number(); call != 0; call = number()) {
         cases++;
         if (call == 1) {

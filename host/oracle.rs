@@ -1,5 +1,5 @@
-// Writes cases from a fixed seed, each with what must come of it, for `compare` to hold the library to; `oracle capture SIZE` writes a capture
-// of that size, and `oracle list` the listing of the capture on standard input.
+// Writes cases from a fixed seed, each with what must come of it, for `compare` to hold the library to. With arguments: `capture SIZE` writes a
+// capture of that size, of kind 1 + SIZE mod 6; `list` the listing of the capture on standard input; `whole KIND` and `full KIND` what `bench` takes.
 mod rules;
 
 use rules::{group_octets, layout, listing, notification, pieces, split, Groups};
@@ -117,8 +117,7 @@ fn split_case(out: &mut impl Write, c: &mut Chance) -> io::Result<()> {
 }
 
 // A capture of records in parts, some damaged and some missing, of at least so many octets.
-fn any_capture(c: &mut Chance, least: usize) -> Vec<u8> {
-    let kind = 1 + c.below(6) as u32;
+fn any_capture(c: &mut Chance, kind: u32, least: usize) -> Vec<u8> {
     let mut capture = vec![kind as u8];
     let payload = 20 + c.below(30) as usize;
     while capture.len() < least {
@@ -137,7 +136,8 @@ fn any_capture(c: &mut Chance, least: usize) -> Vec<u8> {
 }
 
 fn list_case(out: &mut impl Write, c: &mut Chance, least: usize) -> io::Result<()> {
-    let mut capture = any_capture(c, least);
+    let kind = 1 + c.below(6) as u32;
+    let mut capture = any_capture(c, kind, least);
     match c.below(16) {
         0 => capture.truncate(c.below(capture.len() as u64 + 1) as usize),
         1 => capture[0] = c.next() as u8,
@@ -150,12 +150,35 @@ fn list_case(out: &mut impl Write, c: &mut Chance, least: usize) -> io::Result<(
     put_list(out, &capture, c)
 }
 
+// A capture of whole records in parts of 20 octets, none damaged and none missing: as many as 64 KiB hold, with the kind as the seed.
+fn whole_capture(kind: u32) -> Vec<u8> {
+    let mut c = Chance(kind as u64);
+    let mut capture = vec![kind as u8];
+    loop {
+        let before = capture.len();
+        let (record, direction) = any_record(&mut c, kind);
+        for s in pieces(kind, &record, direction, 20) {
+            capture.extend((s.len() as u16).to_le_bytes());
+            capture.extend(s);
+        }
+        if capture.len() > 65536 {
+            capture.truncate(before);
+            return capture;
+        }
+    }
+}
+
+// A record with all groups of its kind, as one notification.
+fn full_record(kind: u32) -> Vec<u8> {
+    let octets = |bit, group| (0..group_octets(group)).map(|i| (bit * 16 + i) as u8).collect();
+    let all: Groups = layout(kind).iter().enumerate().map(|(bit, group)| (bit, octets(bit, group))).collect();
+    notification(kind, &all, (kind == 2) as u32)
+}
+
 // Every kind with all groups, payloads near the edges of its parts, buffers of every length.
 fn every_length(out: &mut impl Write) -> io::Result<()> {
     for kind in 1..=6 {
-        let octets = |bit, group| (0..group_octets(group)).map(|i| (bit * 16 + i) as u8).collect();
-        let all: Groups = layout(kind).iter().enumerate().map(|(bit, group)| (bit, octets(bit, group))).collect();
-        let s = notification(kind, &all, (kind == 2) as u32);
+        let s = full_record(kind);
         for payload in [20, 21, 29, 30, 31, 40, 512] {
             for lent in 0..64 {
                 for part in 0..4 {
@@ -190,10 +213,16 @@ fn main() -> io::Result<()> {
     let mut out = BufWriter::new(io::stdout().lock());
     let mut c = Chance(2026);
     let arguments: Vec<String> = std::env::args().skip(1).collect();
+    let number = || arguments[1].parse().unwrap();
     match arguments.first().map(String::as_str) {
         Some("capture") => {
-            let size: usize = arguments[1].parse().unwrap();
-            out.write_all(&any_capture(&mut c, size)[..size])
+            let size = number();
+            out.write_all(&any_capture(&mut c, 1 + size % 6, size as usize)[..size as usize])
+        }
+        Some("whole") => out.write_all(&whole_capture(number())),
+        Some("full") => {
+            out.write_all(&[number() as u8])?;
+            out.write_all(&full_record(number()))
         }
         Some(_) => {
             let mut capture = vec![];

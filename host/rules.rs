@@ -15,74 +15,37 @@ pub type Group = Vec<(&'static str, Width)>;
 // A record or a part: the octets of each group that is present, by its bit; 0 is the main group.
 pub type Groups = BTreeMap<usize, Vec<u8>>;
 
+// The groups of a kind by their bits, the main group first.
+#[rustfmt::skip]
 pub fn layout(kind: u32) -> Vec<Group> {
-    let energy = vec![("total_energy", U16), ("energy_per_hour", U16), ("energy_per_minute", U8)];
     let slope = vec![("inclination", S16), ("ramp_angle", S16)];
     let gain = vec![("positive_gain", U16), ("negative_gain", U16)];
     let one = |name, width| vec![(name, width)];
     let mut groups = match kind {
         1 => vec![
-            one("speed", U16),
-            one("average_speed", U16),
-            one("distance", U24),
-            slope,
-            gain,
-            one("pace", U8),
-            one("average_pace", U8),
+            one("speed", U16), one("average_speed", U16), one("distance", U24), slope, gain, one("pace", U8), one("average_pace", U8),
         ],
         2 => vec![
-            one("speed", U16),
-            one("average_speed", U16),
-            one("distance", U24),
-            vec![("step_rate", U16), ("average_step_rate", U16)],
-            one("stride_count", U16),
-            gain,
-            slope,
-            one("resistance", S16),
-            one("power", S16),
-            one("average_power", S16),
+            one("speed", U16), one("average_speed", U16), one("distance", U24), vec![("step_rate", U16), ("average_step_rate", U16)],
+            one("stride_count", U16), gain, slope, one("resistance", S16), one("power", S16), one("average_power", S16),
         ],
         3 => vec![
-            vec![("floors", U16), ("steps", U16)],
-            one("step_rate", U16),
-            one("average_step_rate", U16),
-            one("positive_gain", U16),
+            vec![("floors", U16), ("steps", U16)], one("step_rate", U16), one("average_step_rate", U16), one("positive_gain", U16),
         ],
         4 => vec![
-            one("floors", U16),
-            one("step_rate", U16),
-            one("average_step_rate", U16),
-            one("positive_gain", U16),
-            one("stride_count", U16),
+            one("floors", U16), one("step_rate", U16), one("average_step_rate", U16), one("positive_gain", U16), one("stride_count", U16),
         ],
         5 => vec![
-            vec![("stroke_rate", U8), ("stroke_count", U16)],
-            one("average_stroke_rate", U8),
-            one("distance", U24),
-            one("pace", U16),
-            one("average_pace", U16),
-            one("power", S16),
-            one("average_power", S16),
-            one("resistance", S16),
+            vec![("stroke_rate", U8), ("stroke_count", U16)], one("average_stroke_rate", U8), one("distance", U24), one("pace", U16),
+            one("average_pace", U16), one("power", S16), one("average_power", S16), one("resistance", S16),
         ],
         _ => vec![
-            one("speed", U16),
-            one("average_speed", U16),
-            one("cadence", U16),
-            one("average_cadence", U16),
-            one("distance", U24),
-            one("resistance", S16),
-            one("power", S16),
-            one("average_power", S16),
+            one("speed", U16), one("average_speed", U16), one("cadence", U16), one("average_cadence", U16), one("distance", U24),
+            one("resistance", S16), one("power", S16), one("average_power", S16),
         ],
     };
-    groups.extend([
-        energy,
-        one("heart_rate", U8),
-        one("metabolic_equivalent", U8),
-        one("elapsed", U16),
-        one("remaining", U16),
-    ]);
+    groups.push(vec![("total_energy", U16), ("energy_per_hour", U16), ("energy_per_minute", U8)]);
+    groups.extend([one("heart_rate", U8), one("metabolic_equivalent", U8), one("elapsed", U16), one("remaining", U16)]);
     if kind == 1 {
         groups.push(vec![("belt_force", S16), ("power_output", S16)]);
     }
