@@ -1,0 +1,27 @@
+// A record of each kind, made, split, collected and printed: the code beside each kind's page of the reference. What is printed is held to the
+// file `stdout`, which was worked out from document 01.
+mod cross_trainer;
+mod indoor_bike;
+mod round;
+mod rower;
+mod stair_climber;
+mod step_climber;
+mod text;
+mod treadmill;
+
+use crate::text::print;
+
+fn main() {
+    print(b"== treadmill\n");
+    treadmill::run();
+    print(b"== cross trainer\n");
+    cross_trainer::run();
+    print(b"== step climber\n");
+    step_climber::run();
+    print(b"== stair climber\n");
+    stair_climber::run();
+    print(b"== rower\n");
+    rower::run();
+    print(b"== indoor bike\n");
+    indoor_bike::run();
+}

@@ -1,0 +1,37 @@
+// Text on standard output.
+use libc::STDOUT_FILENO;
+
+pub fn print(text: &[u8]) {
+    io::write_all(STDOUT_FILENO, text);
+}
+
+// A number behind its label.
+pub fn print_number(label: &[u8], n: u64) {
+    io::write_all(STDOUT_FILENO, label);
+    io::print_decimal(STDOUT_FILENO, n);
+}
+
+fn digit(n: u8) -> u8 {
+    let d = n % 16;
+    if d < 10 { 48 + d } else { 55 + d }
+}
+
+// An octet as two digits in capitals, behind a space.
+fn print_octet(x: u8) {
+    let text = [b' ', digit(x / 16), digit(x % 16)];
+    print(&text);
+}
+
+pub fn print_octets(s: &[u8]) {
+    for i in 0..s.len() {
+        print_octet(s[i]);
+    }
+}
+
+// The first octets of a buffer; all of them, where it has fewer.
+pub fn first(buffer: &[u8], length: usize) -> &[u8] {
+    if buffer.len() < length {
+        return buffer;
+    }
+    &buffer[0..length]
+}
