@@ -365,4 +365,5 @@ def main():
     collection_cases()
 
 
-main()
+if __name__ == "__main__":
+    main()

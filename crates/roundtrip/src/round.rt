@@ -1,8 +1,8 @@
 // A record split into its parts, and the parts collected into a record again: the same for every kind.
-use crate::text::first;
-use crate::text::print;
-use crate::text::print_number;
-use crate::text::print_octets;
+use crate::output::first;
+use crate::output::print;
+use crate::output::print_number;
+use crate::output::print_octets;
 use listing::lines::put_record;
 use listing::lines::put_refused;
 use record::record::Climb;

@@ -1,0 +1,27 @@
+-- `put_bits` is safe and ends: the measure is the number of bits left. Assumes nothing.
+use Prim.Native.Nat.{_-_}
+use mathlib.Core.Path.{_≡_}
+use lib.ListN.{length}
+use borrow.Author.Needs.{needs}
+use Rattle.fttables.proofs.parts.put_bits.Statement.{statement}
+use Rattle.fttables.proofs.parts.put_bits.Tie as tie
+
+abbrev Inv-loop : tie.InvT-loop
+Inv-loop out₀ at set next₀ bit₀ out next bit = length out ≡ length out₀
+
+abbrev μ-loop : tie.MeasureT-loop
+μ-loop out₀ at set next₀ bit₀ out next bit = 15 - bit
+
+pub put-bits-spec : {M : Type 1} → statement M
+put-bits-spec =
+    tie.close
+    (tie.spec
+    Inv-loop
+    μ-loop
+    (λ c. search needs)
+    (λ c κs. search needs)
+    (λ c. search needs)
+    (λ c. search needs)
+    (λ c. search needs)
+    (λ c. search needs)
+    (λ c. search needs))

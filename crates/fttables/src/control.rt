@@ -1,0 +1,134 @@
+// The page of the control point.
+use crate::feature::put_feature;
+use crate::orders::put_orders;
+use crate::refusals::put_refusals;
+use crate::words::put_word;
+use machine::op_codes::Bound;
+use machine::op_codes::Need;
+use machine::op_codes::Row;
+use machine::op_codes::row_of;
+use text::text::put_bytes;
+use text::text::put_decimal;
+use text::text::put_hex;
+
+// One more than the last op code of the table.
+const OP_CODES: u8 = 21;
+
+// What an op code does, and its parameter.
+fn put_name(out: &mut [u8], at: usize, op: u8) -> usize {
+    put_word(
+        out,
+        at,
+        b"request control\nreset\nspeed u16\ninclination s16\nresistance u8\npower s16\nheart rate u8\nstart or resume\nstop (1) or pause (2) u8\nenergy u16\nsteps u16\nstrides u16\ndistance u24\ntime u16\ntwo zones, a u16 each\nthree zones, a u16 each\nfive zones, a u16 each\nwind s16, grade s16, rolling u8, drag u8\nwheel u16\nspin down\ncadence u16\n",
+        op,
+    )
+}
+
+fn place_of(bound: Bound) -> u8 {
+    match bound {
+        Bound::Free => 0,
+        Bound::Speed => 1,
+        Bound::Inclination => 2,
+        Bound::Resistance => 3,
+        Bound::Power => 4,
+        Bound::HeartRate => 5,
+    }
+}
+
+fn put_range(out: &mut [u8], at: usize, bound: Bound) -> usize {
+    put_word(
+        out,
+        at,
+        b"none\nspeed\ninclination\nresistance\npower\nheart rate\n",
+        place_of(bound),
+    )
+}
+
+fn put_need(out: &mut [u8], at: usize, need: Need) -> usize {
+    match need {
+        Need::Always => put_bytes(out, at, b"always supported"),
+        Need::Never => put_bytes(out, at, b"never supported"),
+        Need::Bit(bit) => put_decimal(out, at, bit as u32),
+    }
+}
+
+// The status octets: the first, and the parameter where there is one.
+fn put_status(out: &mut [u8], at: usize, octets: u8, status: u8) -> usize {
+    if status == 0 {
+        return put_bytes(out, at, b"none");
+    }
+    let next = put_hex(out, at, status);
+    if octets == 0 {
+        return next;
+    }
+    put_bytes(out, next, b" and the parameter")
+}
+
+// The octets of the parameter, its range, and the target bit.
+fn put_needs(out: &mut [u8], at: usize, row: Row) -> usize {
+    let octets = row.0 as u32;
+    let need = row.1;
+    let bound = row.2;
+    let a = put_decimal(out, at, octets);
+    let b = put_bytes(out, a, b" | ");
+    let c = put_range(out, b, bound);
+    let d = put_bytes(out, c, b" | ");
+    put_need(out, d, need)
+}
+
+// The response and the status octets.
+fn put_answers(out: &mut [u8], at: usize, op: u8, row: Row) -> usize {
+    let octets = row.0;
+    let status = row.3;
+    let a = put_bytes(out, at, b" | 80 ");
+    let b = put_hex(out, a, op);
+    let c = put_bytes(out, b, b" and the result | ");
+    put_status(out, c, octets, status)
+}
+
+// The first cells: the op code, what it does, its parameter.
+fn put_op(out: &mut [u8], at: usize, op: u8) -> usize {
+    let a = put_bytes(out, at, b"| ");
+    let b = put_hex(out, a, op);
+    let c = put_bytes(out, b, b" | ");
+    let d = put_name(out, c, op);
+    put_bytes(out, d, b" | ")
+}
+
+fn put_op_code(out: &mut [u8], at: usize, op: u8) -> usize {
+    let row = row_of(op);
+    let a = put_op(out, at, op);
+    let b = put_needs(out, a, row);
+    let c = put_answers(out, b, op, row);
+    put_bytes(out, c, b" |\n")
+}
+
+fn put_op_codes(out: &mut [u8], at: usize) -> usize {
+    let mut next = put_bytes(
+        out,
+        at,
+        b"## Op codes\n\n| op code | name and parameter | octets | range | target bit | response | status where it succeeds |\n|---|---|---|---|---|---|---|\n",
+    );
+    for op in 0..OP_CODES {
+        next = put_op_code(out, next, op);
+    }
+    put_bytes(out, next, b"\n")
+}
+
+// The results, in the order in which they are judged.
+fn put_results(out: &mut [u8], at: usize) -> usize {
+    put_bytes(
+        out,
+        at,
+        b"## Results\n\nThe first that applies:\n\n| result | given when |\n|---|---|\n| 02 | the op code is not supported |\n| 05 | the client does not hold control (but for 00) |\n| 03 | wrong length, a value outside its range, or 08 with neither 1 nor 2 |\n| 04 | 00 finds another holder, 07 finds running, 08 with 1 finds stopped, or 08 with 2 finds anything but running |\n| 01 | else: success |\n\n",
+    )
+}
+
+pub(crate) fn put_control(out: &mut [u8], at: usize) -> usize {
+    let a = put_bytes(out, at, b"# Control point\n\n");
+    let b = put_feature(out, a);
+    let c = put_op_codes(out, b);
+    let d = put_results(out, c);
+    let e = put_refusals(out, d);
+    put_orders(out, e)
+}

@@ -1,0 +1,59 @@
+// The two words of the Feature value.
+use crate::words::put_word;
+use record::feature::Feature;
+use text::text::put_bytes;
+use text::text::put_decimal;
+
+// The line of a bit, with its name, one of some.
+fn put_bit(out: &mut [u8], at: usize, bit: u8, names: &[u8], which: u8) -> usize {
+    let a = put_bytes(out, at, b"| ");
+    let b = put_decimal(out, a, bit as u32);
+    let c = put_bytes(out, b, b" | ");
+    let d = put_word(out, c, names, which);
+    put_bytes(out, d, b" |\n")
+}
+
+// The lines of a word's bits.
+fn put_bits(out: &mut [u8], at: usize, bits: [u8; 17], names: &[u8]) -> usize {
+    let mut next = at;
+    for i in 0..17u8 {
+        next = put_bit(out, next, bits[i as usize], names, i);
+    }
+    next
+}
+
+fn put_features(out: &mut [u8], at: usize) -> usize {
+    let next = put_bytes(out, at, b"| bit of the features | name |\n|---|---|\n");
+    put_bits(
+        out,
+        next,
+        Feature::feature_bits(),
+        b"average speed\ncadence\ndistance\ninclination\nelevation gain\npace\nstep count\nresistance\nstride count\nenergy\nheart rate\nmetabolic equivalent\nelapsed\nremaining\npower\nbelt force and power output\nuser data retention\n",
+    )
+}
+
+fn put_targets(out: &mut [u8], at: usize) -> usize {
+    let next = put_bytes(
+        out,
+        at,
+        b"| bit of the target settings | name |\n|---|---|\n",
+    );
+    put_bits(
+        out,
+        next,
+        Feature::target_bits(),
+        b"speed\ninclination\nresistance\npower\nheart rate\nenergy\nsteps\nstrides\ndistance\ntraining time\ntime in two heart rate zones\ntime in three heart rate zones\ntime in five heart rate zones\nbike simulation\nwheel circumference\nspin down\ncadence\n",
+    )
+}
+
+pub(crate) fn put_feature(out: &mut [u8], at: usize) -> usize {
+    let a = put_bytes(
+        out,
+        at,
+        b"## Feature value\n\n8 octets: the features, then the target settings, each a u32. Other bits are written 0 and ignored when read.\n\n",
+    );
+    let b = put_features(out, a);
+    let c = put_bytes(out, b, b"\n");
+    let d = put_targets(out, c);
+    put_bytes(out, d, b"\n")
+}

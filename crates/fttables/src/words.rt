@@ -1,0 +1,34 @@
+// Words in tables.
+use text::text::put_byte;
+
+const LF: u8 = 10;
+
+// The line after an octet.
+fn line_after(line: u8, x: u8) -> u8 {
+    if x == LF {
+        if line < 255 {
+            return line + 1;
+        }
+    }
+    line
+}
+
+// An octet of a line, where it is the one asked for.
+fn put_within(out: &mut [u8], at: usize, line: u8, which: u8, x: u8) -> usize {
+    if line == which && x != LF {
+        return put_byte(out, at, x);
+    }
+    at
+}
+
+// One of some words, each of which stands on a line.
+pub(crate) fn put_word(out: &mut [u8], at: usize, words: &[u8], which: u8) -> usize {
+    let mut next = at;
+    let mut line: u8 = 0;
+    for i in 0..words.len() {
+        let x = words[i];
+        next = put_within(out, next, line, which, x);
+        line = line_after(line, x);
+    }
+    next
+}
