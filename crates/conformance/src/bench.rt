@@ -1,13 +1,13 @@
 // A machine under test, and a client, number 0, that writes to it and confirms each response.
-use crate::text::first;
-use crate::text::print;
-use crate::text::print_octets;
 use machine::machine::Machine;
 use machine::octets::Octets;
 use machine::ranges::HeartRateRange;
 use machine::ranges::Ranges;
 use machine::ranges::SignedRange;
 use machine::ranges::SpeedRange;
+use output::first;
+use output::print;
+use output::print_octets;
 use record::octets::u8_at;
 use service::control::confirm;
 use service::control::connect;

@@ -4,7 +4,6 @@ mod bench;
 mod errors;
 mod procedures;
 mod statuses;
-mod text;
 
 fn main() {
     bench::run_feature();

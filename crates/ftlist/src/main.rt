@@ -4,6 +4,7 @@ use libc::STDOUT_FILENO;
 use listing::capture::put_notification;
 use listing::capture::start;
 use listing::lines::put_refused;
+use output::first;
 use record::groups::is_known;
 use record::octets::u16_at;
 use record::refusal::Refusal;
@@ -13,14 +14,6 @@ const LINES: usize = 1024;
 
 // The octets of a notification's length.
 const LENGTH_OCTETS: usize = 2;
-
-// The first octets of a buffer; all of them, where it has fewer.
-fn first(buffer: &[u8], length: usize) -> &[u8] {
-    if buffer.len() < length {
-        return buffer;
-    }
-    &buffer[0..length]
-}
 
 // Writes the first octets of a buffer; whether the output took them all.
 fn show(lines: &[u8], length: usize) -> bool {

@@ -8,7 +8,8 @@ mod words;
 
 use crate::control::put_control;
 use crate::parts::put_parts;
-use libc::STDOUT_FILENO;
+use output::first;
+use output::print;
 use record::layout::CROSS_TRAINER;
 use record::layout::INDOOR_BIKE;
 use record::layout::ROWER;
@@ -31,18 +32,10 @@ fn put_kinds(out: &mut [u8]) -> usize {
     put_kind(out, e, INDOOR_BIKE)
 }
 
-// The first octets of a buffer; all of them, where it has fewer.
-fn first(buffer: &[u8], length: usize) -> &[u8] {
-    if buffer.len() < length {
-        return buffer;
-    }
-    &buffer[0..length]
-}
-
 fn main() {
     let mut space = io::large_buffer();
     let out: &mut [u8] = &mut space;
     let kinds = put_kinds(out);
     let all = put_control(out, kinds);
-    io::write_all(STDOUT_FILENO, first(out, all));
+    print(first(out, all));
 }

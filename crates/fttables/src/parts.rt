@@ -1,4 +1,5 @@
 // The parts of a record of each kind with all its groups, as the splitter cuts them.
+use output::first;
 use record::groups::BITS;
 use record::groups::flags_length;
 use record::groups::has;
@@ -18,14 +19,6 @@ use text::text::put_hex;
 const MOST_PARTS: u8 = 16;
 
 const SPACE: u8 = 32;
-
-// The first octets of a buffer; all of them, where it has fewer.
-fn first(buffer: &[u8], length: usize) -> &[u8] {
-    if buffer.len() < length {
-        return buffer;
-    }
-    &buffer[0..length]
-}
 
 // Octets in hex, a space before each.
 fn put_octets(out: &mut [u8], at: usize, octets: &[u8]) -> usize {

@@ -2,14 +2,13 @@
 // file `stdout`, which was worked out from document 01.
 mod cross_trainer;
 mod indoor_bike;
-mod output;
 mod round;
 mod rower;
 mod stair_climber;
 mod step_climber;
 mod treadmill;
 
-use crate::output::print;
+use output::print;
 
 fn main() {
     print(b"== treadmill\n");

@@ -1,10 +1,10 @@
 // A record split into its parts, and the parts collected into a record again: the same for every kind.
-use crate::output::first;
-use crate::output::print;
-use crate::output::print_number;
-use crate::output::print_octets;
 use listing::lines::put_record;
 use listing::lines::put_refused;
+use output::first;
+use output::print;
+use output::print_number;
+use output::print_octets;
 use record::record::Climb;
 use record::record::Energy;
 use record::record::Force;

@@ -4,7 +4,7 @@ use crate::lines::By;
 use crate::lines::run_lines;
 use crate::steps::after;
 use crate::steps::opened;
-use crate::text::print;
+use output::print;
 use service::collector::Told;
 
 fn run_openings() {

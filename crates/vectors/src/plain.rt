@@ -1,10 +1,10 @@
 // Numbers and the Feature value from octets and back.
 use crate::text::UNTOUCHED;
-use crate::text::print;
-use crate::text::print_number;
-use crate::text::print_octets;
 use crate::text::print_refusal;
 use crate::text::print_signed;
+use output::print;
+use output::print_number;
+use output::print_octets;
 use record::feature::Feature;
 use record::feature::FeatureAnswer;
 use record::octets::put_s16;

@@ -2,12 +2,12 @@
 use crate::runs::print_record;
 use crate::samples::is_present;
 use crate::samples::number_at;
-use crate::text::first;
-use crate::text::print;
 use crate::text::print_either;
-use crate::text::print_number;
-use crate::text::print_octets;
 use crate::text::print_refusal;
+use output::first;
+use output::print;
+use output::print_number;
+use output::print_octets;
 use record::formed::well_formed;
 use record::layout::Row;
 use record::layout::row_count;

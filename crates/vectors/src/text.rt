@@ -1,5 +1,6 @@
-// Text on standard output.
-use libc::STDOUT_FILENO;
+// What the cases print, and the buffers that are lent.
+use output::print;
+use output::print_number;
 use record::octets::unsigned;
 use record::refusal::Refusal;
 
@@ -8,16 +9,6 @@ pub const LENT: usize = 64;
 
 // What a lent octet holds until it is written.
 pub const UNTOUCHED: u8 = 0xAA;
-
-pub fn print(text: &[u8]) {
-    io::write_all(STDOUT_FILENO, text);
-}
-
-// A number behind its label.
-pub fn print_number(label: &[u8], n: u64) {
-    io::write_all(STDOUT_FILENO, label);
-    io::print_decimal(STDOUT_FILENO, n);
-}
 
 pub fn print_u16(label: &[u8], n: u16) {
     print_number(label, n as u64);
@@ -41,31 +32,6 @@ pub fn print_either(test: bool, yes: &[u8], no: &[u8]) {
     } else {
         print(no);
     }
-}
-
-fn digit(n: u8) -> u8 {
-    let d = n % 16;
-    if d < 10 { 48 + d } else { 55 + d }
-}
-
-// An octet as two digits in capitals, behind a space.
-pub fn print_octet(x: u8) {
-    let text = [b' ', digit(x / 16), digit(x % 16)];
-    print(&text);
-}
-
-pub fn print_octets(s: &[u8]) {
-    for i in 0..s.len() {
-        print_octet(s[i]);
-    }
-}
-
-// The first octets of a buffer; all of them, where it has fewer.
-pub fn first(buffer: &[u8], length: usize) -> &[u8] {
-    if buffer.len() < length {
-        return buffer;
-    }
-    &buffer[0..length]
 }
 
 // The octets from a place up to another; all of them, where there are no such places.

@@ -1,5 +1,7 @@
-// Text on standard output.
+// What the programs print with: text, numbers and octets on standard output. The kit has no model of an output, so these promise to be safe and to end.
 use libc::STDOUT_FILENO;
+ghost use mathlib.Core.Path.{_≡_};
+ghost use lib.ListN.{take};
 
 pub fn print(text: &[u8]) {
     io::write_all(STDOUT_FILENO, text);
@@ -29,7 +31,9 @@ pub fn print_octets(s: &[u8]) {
 }
 
 // The first octets of a buffer; all of them, where it has fewer.
-pub fn first(buffer: &[u8], length: usize) -> &[u8] {
+pub fn first(buffer: &[u8], length: usize) -> &[u8]
+    ensures { λ r. ⌜ now r ≡ take length (now (buffer .entry)) ⌝ }
+{
     if buffer.len() < length {
         return buffer;
     }
