@@ -1,2 +1,3 @@
 pub mod HostOnce
 pub mod Whole
+pub mod ReadFormed
