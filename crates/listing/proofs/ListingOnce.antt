@@ -1,7 +1,5 @@
 -- No second reply, state or lent content meets the contracts of the listing.
-use Prim.Native.Nat.{ℕ}
 use mathlib.Core.Path.{_≡_, sym, ap, _∙_}
-use mathlib.Core.List.{List}
 use denote.Ref.{now}
 use Rattle.record.specs.Refusal.{number-of}
 use Rattle.record.proofs.Once.{Once, LeftOnce, number-same, value-same, never}

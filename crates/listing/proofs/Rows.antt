@@ -1,14 +1,13 @@
 -- The texts of numbers, and the lines of rows. Assumes nothing.
-use Prim.Native.Nat.{ℕ, zero, suc, _+_, _-_, _%_, _^_, _<_, _≤_}
+use Prim.Native.Nat.{ℕ, suc, _+_, _-_, _<_, _≤_}
 use mathlib.Core.Path.{_≡_, refl, sym}
-use mathlib.Core.List.{List, [], _∷_, _++_, map, append-nil, append-assoc}
-use mathlib.Core.Bool.{true, false, cond}
-use native.Mathlib.Nat.{not-suc-le-zero, le-of-suc-le-suc}
+use mathlib.Core.List.{List, [], _∷_, _++_, append-nil, append-assoc}
+use mathlib.Core.Bool.{true, false}
 use native.Mathlib.Numerals.{add-one}
 use native.Mathlib.Omega.{arith}
 use borrow.Author.Tests.{lt-ltb, le-ltb}
-use lib.ListN.{length, getD, take, length-append}
-use lib.Seq.{take-append-seam, take-suc, take-all}
+use lib.ListN.{length, getD, take}
+use lib.Seq.{take-suc, take-all}
 use Rattle.record.specs.declared.layout.Row.{Row}
 use Rattle.record.specs.declared.record.Record.{Record}
 use Rattle.record.specs.Layout.{layout}
@@ -17,7 +16,7 @@ use Rattle.record.specs.Record.{wire}
 use Rattle.record.specs.Octets as Octets
 use Rattle.listing.specs.Lines.{value, field-line, field-lines, head-lines, record-lines}
 use Rattle.text.specs.Names.{name}
-use Rattle.text.specs.Text.{ascii, decimal, integer, line, Wrote}
+use Rattle.text.specs.Text.{decimal, integer, line, Wrote}
 use Rattle.text.proofs.Writing.{then}
 
 -- the text of sixteen bits, below 32,768 and from there on

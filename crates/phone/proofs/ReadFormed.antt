@@ -1,18 +1,16 @@
 -- Whatever a notification with More Data 0 holds is a well-formed record: so a host is answered 13 for More Data 1 and for nothing else.
-use Prim.Native.Nat.{ℕ, zero, suc, _+_, _-_, _/_, _%_, _^_, _<_, _≤_, min}
+use Prim.Native.Nat.{ℕ, zero, suc, _+_, _/_, _%_, _^_, _<_, _≤_}
 use mathlib.Core.Path.{_≡_, refl, sym, ap, _∙_}
 use mathlib.Core.Bool.{Bool, true, false, cond, not, _&&_, true≢false}
 use mathlib.Core.List.{List, [], _∷_}
 use native.Mathlib.Omega.{arith}
 use borrow.Author.Tests.{lt-ltb, ltb-true}
-use lib.Bits.{bitAnd}
 use lib.Dec.{eqb, leb, ltb}
 use lib.ListN.{length, getD, set, drop, replicate, length-set}
 use lib.Seq.{set-comm, set-set, getD-drop, getD-set-same, getD-set-other}
 use Rattle.record.specs.declared.layout.Row.{Row}
 use Rattle.record.specs.declared.notification.Part.{Part}
-use Rattle.record.specs.declared.split.Extent.{Extent}
-use Rattle.record.specs.Answer.{Answer, refused, given, provided}
+use Rattle.record.specs.Answer.{given, provided}
 use Rattle.record.specs.Layout.{layout, octets-of, tables, treadmill, cross-trainer, step-climber, stair-climber, rower, indoor-bike}
 use Rattle.record.specs.Groups.{has, named, listed, known, within, optional, turned, flags-octets, set-length}
 use Rattle.record.specs.Octets.{number}

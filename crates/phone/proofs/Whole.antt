@@ -1,17 +1,14 @@
 -- A host that hands in a record's one notification is answered as splitting the record answers: octets too.
 use Prim.Native.Nat.{ℕ, _+_, _%_, _≤_}
-use mathlib.Core.Path.{_≡_, refl, sym, ap, _∙_}
+use mathlib.Core.Path.{_≡_, refl, _∙_}
 use mathlib.Core.Bool.{Bool, true, false}
 use mathlib.Core.List.{List}
 use native.Mathlib.Omega.{arith}
 use lib.Dec.{eqb}
 use lib.ListN.{length}
-use Rattle.record.specs.declared.notification.Part.{Part}
 use Rattle.record.specs.declared.record.Record.{Record}
-use Rattle.record.specs.declared.split.Extent.{Extent}
-use Rattle.record.specs.Answer.{Answer, refused, given, provided, after}
+use Rattle.record.specs.Answer.{Answer, given, provided}
 use Rattle.record.specs.Groups.{known, optional, flags-octets, set-length}
-use Rattle.record.specs.Layout.{layout}
 use Rattle.record.specs.Notification.{part-of, joined}
 use Rattle.record.specs.Record.{wire, well-formed, Formed}
 use Rattle.record.specs.Split.{payload-known, octets, split-wire, split-of, lent-after}
@@ -20,7 +17,7 @@ use Rattle.record.proofs.Tables.{octets-most, flags-most}
 use Rattle.record.proofs.Records.{formed-facts}
 use Rattle.record.proofs.Parts.{part-again, values-again, listed-groups-even}
 use Rattle.service.specs.Collector.{zeros}
-use Rattle.phone.specs.Host.{from-answer, split-answer, split-lent}
+use Rattle.phone.specs.Host.{split-answer, split-lent}
 
 -- the one notification that holds a record
 abbrev pub whole : Record → List ℕ

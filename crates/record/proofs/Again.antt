@@ -3,7 +3,7 @@
 use Prim.Native.Nat.{ℕ, suc, _+_, _%_, _<_, _≤_}
 use mathlib.Core.Path.{_≡_, refl, sym, ap, _∙_}
 use mathlib.Core.Bool.{true}
-use mathlib.Core.List.{List, _++_}
+use mathlib.Core.List.{List}
 use native.Mathlib.Omega.{arith}
 use lib.Dec.{eqb, leb}
 use lib.ListN.{length, take, drop}
@@ -12,7 +12,7 @@ use borrow.Author.Tests.{leb-true}
 use Rattle.record.specs.declared.record.Record.{Record}
 use Rattle.record.specs.declared.notification.Part.{Part}
 use Rattle.record.specs.Layout.{layout}
-use Rattle.record.specs.Groups.{has, named, flags-octets, set-length, optional}
+use Rattle.record.specs.Groups.{named, flags-octets, set-length, optional}
 use Rattle.record.specs.Octets.{over}
 use Rattle.record.specs.Answer.{Answer, given, after}
 use Rattle.record.specs.Record.{wire, well-formed, kept, Formed}

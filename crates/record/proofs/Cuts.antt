@@ -1,15 +1,14 @@
 -- How `cut` cuts: each part's groups lie below a bit, and what is left lies from that bit on.
-use Prim.Native.Nat.{ℕ, zero, suc, _+_, _*_, _-_, _/_, _%_, _^_, _<_, _≤_, zero-le}
-use mathlib.Core.Path.{_≡_, refl, _∙_}
-use mathlib.Core.Bool.{false}
+use Prim.Native.Nat.{ℕ, zero, suc, _+_, _*_, _-_, _/_, _%_, _^_, _<_, _≤_}
+use mathlib.Core.Path.{_≡_, _∙_}
 use mathlib.Core.List.{List, [], _∷_}
 use native.Mathlib.Omega.{arith}
-use native.Mathlib.Nat.{mod-one, zero-mod, mul-mod-left, mul-assoc, add-mul, zero-mul, mul-div-mul-right}
+use native.Mathlib.Nat.{zero-mod, mul-mod-left, mul-assoc, add-mul, zero-mul, mul-div-mul-right}
 use lib.Dec.{leb, eqb}
 use lib.Pow.{pow-pos, pow-add, split, shl-shr, mod-pow-add, mod-mod-pow}
 use Rattle.record.specs.Groups.{set-length}
 use Rattle.record.specs.Split.{fits, longest, cut}
-use Rattle.record.proofs.Sets.{Tested, passed, failed, tested, leb-le, leb-lt, eqb-eq, eqb-ne, low-bit}
+use Rattle.record.proofs.Sets.{passed, failed, tested, leb-le, leb-lt, eqb-eq, eqb-ne, low-bit}
 use Rattle.record.proofs.Tables.{Sound}
 use Rattle.record.proofs.Runs.{longest-fits, longest-le, longest-ge}
 

@@ -1,8 +1,7 @@
 -- No second reply meets a contract: for each public function of the crate, over the contract itself; and for a function that is lent
 -- something, no second content is left there.
 use Prim.Native.Nat.{ℕ}
-use mathlib.Core.Path.{_≡_, refl, sym, ap, _∙_}
-use mathlib.Core.List.{List}
+use mathlib.Core.Path.{_≡_, sym, ap, _∙_}
 use native.Mathlib.Omega.{arith}
 use denote.Ref.{now}
 use Rattle.record.specs.declared.feature.FeatureAnswer.{FeatureAnswer}

@@ -1,5 +1,5 @@
 -- Rows by their bits: which of them a set names, and the octets that they take.
-use Prim.Native.Nat.{ℕ, zero, suc, _+_, _%_, _^_, _<_, _≤_, zero-le}
+use Prim.Native.Nat.{ℕ, suc, _+_, _%_, _^_, _<_, _≤_, zero-le}
 use mathlib.Core.Path.{_≡_, refl, sym, ap, _∙_}
 use mathlib.Core.Bool.{Bool, true, false, cond, _&&_}
 use mathlib.Core.List.{List, [], _∷_}
@@ -7,7 +7,6 @@ use native.Mathlib.Omega.{arith}
 use lib.Dec.{ltb, eqb}
 use lib.Pow.{pow-pos}
 use Rattle.record.specs.declared.layout.Row.{Row}
-use Rattle.record.specs.Layout.{octets-of}
 use Rattle.record.specs.Groups.{has, named, size, groups-of}
 use Rattle.record.proofs.Sets.{passed, failed, tested, eqb-eq, eqb-ne, and-l, and-r, leb-le, has-empty, has-power, has-own, has-low, has-high, same-bit, add-bit}
 

@@ -1,13 +1,12 @@
 -- The longest run: where the code's upward walk stops is the highest bit below which the groups fit.
 use Prim.Native.Nat.{ℕ, zero, suc, _+_, _-_, _%_, _^_, _<_, _≤_, zero-le}
-use mathlib.Core.Path.{_≡_, refl, ap, _∙_}
-use mathlib.Core.Bool.{true, false}
+use mathlib.Core.Path.{_≡_}
+use mathlib.Core.Bool.{false}
 use native.Mathlib.Omega.{arith}
-use native.Mathlib.Nat.{mod-one, le-trans}
 use lib.Dec.{leb, eqb}
 use Rattle.record.specs.Groups.{set-length}
 use Rattle.record.specs.Split.{fits, longest, run}
-use Rattle.record.proofs.Sets.{passed, failed, tested, leb-true, leb-false, leb-le, leb-lt, eqb-eq, eqb-ne}
+use Rattle.record.proofs.Sets.{passed, failed, tested, leb-le, leb-lt, eqb-eq, eqb-ne}
 use Rattle.record.proofs.Tables.{length-mono, length-none}
 
 module _ (kind set room : ℕ) where

@@ -1,9 +1,9 @@
 -- Sets of groups as numbers: what `has` says of the bit operations, and of halves and remainders.
-use Prim.Native.Nat.{ℕ, zero, suc, _+_, _-_, _*_, _/_, _%_, _^_, _<_, _≤_, min, max, zero-le, suc-le-suc}
+use Prim.Native.Nat.{ℕ, zero, suc, _+_, _-_, _*_, _/_, _%_, _^_, _<_, _≤_, min, max, suc-le-suc}
 use mathlib.Core.Path.{_≡_, refl, sym, ap, _∙_}
 use mathlib.Core.Bool.{Bool, true, false, _&&_, _||_, true≢false}
 use native.Mathlib.Omega.{arith}
-use native.Mathlib.Nat.{mod-eq-of-lt, one-mul, div-eq-of-lt, div-self, le-trans, mul-mod-left, suc-mul, add-comm, mod-lt, mod-one, zero-lt-suc, pow-suc, div-one, zero-div, div-div-eq-div-mul, mul-comm}
+use native.Mathlib.Nat.{mod-eq-of-lt, one-mul, div-eq-of-lt, div-self, le-trans, mul-mod-left, suc-mul, add-comm, mod-lt, zero-lt-suc, pow-suc, div-one, zero-div, div-div-eq-div-mul, mul-comm}
 use lib.Dec.{T, eqb, leb, ltb, eqb→eq, eqb-refl, leb→le, le→leb, nleb→lt}
 use lib.Bits.{bitAnd, bitOr, and-step, or-step, and-shr, or-shr, or-shifted, and-zero-l}
 use lib.Pow.{pow-pos, pow-mono, pow-lt, pow-add, split, shr-lt, field, mod-mod-pow, mod-pow-add}

@@ -1,6 +1,6 @@
 -- Reading a notification: "A notification is a flags field, then the groups named by its bits, in ascending bit order, least octet first."
 use Prim.Native.Nat.{ℕ, _+_, _/_, _%_, _^_}
-use mathlib.Core.Bool.{Bool, cond}
+use mathlib.Core.Bool.{cond}
 use mathlib.Core.List.{List, [], _∷_}
 use lib.Bits.{bitAnd}
 use lib.Dec.{eqb, leb}

@@ -1,6 +1,6 @@
 -- What a part does to a collection, case by case.
 use Prim.Native.Nat.{ℕ}
-use mathlib.Core.Path.{_≡_, refl, sym, ap, _∙_}
+use mathlib.Core.Path.{_≡_, ap}
 use mathlib.Core.Bool.{Bool, true, false, cond}
 use mathlib.Core.List.{List}
 use lib.Bits.{bitOr}
@@ -9,7 +9,7 @@ use Rattle.record.specs.Answer.{Answer, given, after}
 use Rattle.record.specs.Notification.{part-of, joined, held-after}
 use Rattle.record.specs.Record.{of-wire}
 use Rattle.service.specs.declared.collector.Collection.{Collection}
-use Rattle.service.specs.Collector.{waiting, handed, Stepped, zeros, collection, empty, incomplete, outside, drops, refuses, joins, takes, answers-to, collect}
+use Rattle.service.specs.Collector.{waiting, handed, zeros, collection, empty, incomplete, outside, drops, refuses, joins, collect}
 
 -- the numbers after a notification that is read
 pub read-joins : (kind : ℕ) (s v : List ℕ) (p : Part) → part-of kind s ≡ given p → held-after kind s v ≡ joined kind s v

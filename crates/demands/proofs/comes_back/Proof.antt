@@ -1,17 +1,15 @@
 -- `comes_back` meets its contract. The invariant: what is left to hand over ends with the record. Assumes nothing.
-use Prim.Native.Nat.{ℕ, _+_, _-_, _≤_, _<_}
-use mathlib.Core.Path.{_≡_, refl, sym, ap, ap₂, _∙_}
-use mathlib.Core.Bool.{Bool, true, false, _&&_}
+use Prim.Native.Nat.{ℕ, _-_, _≤_, _<_}
+use mathlib.Core.Path.{_≡_, sym, ap, _∙_}
+use mathlib.Core.Bool.{Bool, true, false}
 use native.Mathlib.Omega.{arith}
 use borrow.Author.Needs.{needs}
 use borrow.Author.Tests.{not-true, not-false}
-use lib.ListN.{length}
 use Rattle.record.specs.declared.record.Record.{Record}
 use Rattle.record.specs.Record.{well-formed}
-use Rattle.record.specs.Split.{payload-known, sets-of, part-octets}
+use Rattle.record.specs.Split.{payload-known, part-octets}
 use Rattle.record.proofs.Again.{record-parts}
-use Rattle.service.specs.declared.collector.Collection.{Collection}
-use Rattle.service.specs.Collector.{Said, waiting, handed, refused, Stepped, meant, collect}
+use Rattle.service.specs.Collector.{waiting, handed, refused, meant, collect}
 use Rattle.demands.specs.Behaviour.{same-record}
 use Rattle.demands.proofs.ComingBack.{Left, left-all, Next, comes-home, waits-on, next, again, again-same, count, count-most}
 use Rattle.demands.proofs.comes_back.Statement.{statement}

@@ -1,13 +1,12 @@
 -- `deliver` meets its contract: what is lent holds the part, and the collection is handed that. Assumes nothing.
 use Prim.Native.Nat.{ℕ, _≤_}
-use mathlib.Core.Path.{_≡_, refl, sym, ap, ap₂, _∙_}
-use mathlib.Core.List.{List}
+use mathlib.Core.Path.{_≡_, sym, ap, ap₂, _∙_}
 use native.Mathlib.Omega.{arith}
 use borrow.Author.Needs.{needs}
-use lib.ListN.{length, take, replicate, length-take}
+use lib.ListN.{length, take, length-take}
 use Rattle.record.specs.declared.split.Extent.{Extent}
 use Rattle.record.specs.Answer.{Answer, refused, given}
-use Rattle.record.specs.Split.{meant, split-of, lent-after, part-octets, sets-of}
+use Rattle.record.specs.Split.{meant, split-of, part-octets, sets-of}
 use Rattle.service.specs.Collector.{Stepped, collect}
 use Rattle.demands.specs.Behaviour.{length-of, buffer}
 use Rattle.demands.proofs.Pieces.{answered, piece-is, part-short}

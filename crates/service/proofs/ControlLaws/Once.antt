@@ -1,6 +1,6 @@
 -- No second reply and no second state meets a contract: for each public function, over the contract itself.
 use Prim.Native.Nat.{ℕ}
-use mathlib.Core.Path.{_≡_, refl, sym, ap, _∙_}
+use mathlib.Core.Path.{_≡_, refl, sym, ap}
 use mathlib.Core.List.{List}
 use Rattle.record.specs.Answer.{Answer}
 use Rattle.record.specs.Refusal.{number-of}

@@ -1,8 +1,6 @@
 -- `put_notification` meets its contract: the lines of what the collection answers, and the state after it. Assumes nothing.
-use Prim.Native.Nat.{ℕ}
-use mathlib.Core.Path.{_≡_, ap, ap₂, _∙_}
+use mathlib.Core.Path.{ap, ap₂, _∙_}
 use borrow.Author.Needs.{needs}
-use Rattle.service.specs.Collector.{Said}
 use Rattle.listing.specs.Listing.{state, number-after}
 use Rattle.listing.proofs.capture.put_notification.Statement.{statement}
 use Rattle.listing.proofs.capture.put_notification.Tie as tie

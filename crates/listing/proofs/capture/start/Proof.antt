@@ -1,5 +1,4 @@
 -- `start` meets its contract. Assumes nothing.
-use Prim.Native.Nat.{ℕ}
 use mathlib.Core.Path.{ap}
 use borrow.Author.Needs.{needs}
 use Rattle.service.specs.declared.collector.Collection.{Collection}

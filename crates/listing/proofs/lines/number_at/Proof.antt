@@ -1,5 +1,5 @@
 -- `number_at` meets its contract. Assumes nothing.
-use mathlib.Core.Path.{_≡_, sym}
+use mathlib.Core.Path.{sym}
 use borrow.Author.Needs.{needs}
 use lib.ListN.{List·getD-eq-default}
 use Rattle.listing.proofs.lines.number_at.Statement.{statement}

@@ -6,7 +6,7 @@ use native.Mathlib.Omega.{arith}
 use borrow.Author.Needs.{needs}
 use lib.ListN.{length, take}
 use Rattle.record.specs.Layout.{layout, no-row}
-use Rattle.listing.specs.Lines.{field-lines, field-line}
+use Rattle.listing.specs.Lines.{field-lines}
 use Rattle.text.specs.Text.{Wrote}
 use Rattle.text.proofs.Writing.{nothing}
 use Rattle.listing.proofs.Rows.{next-row, all-rows}

@@ -1,7 +1,5 @@
 -- `split_read` meets its contract: the numbers that are read are those of the one notification. Assumes nothing.
-use Prim.Native.Nat.{ℕ}
 use mathlib.Core.Path.{_≡_, refl, sym, ap, _∙_}
-use mathlib.Core.List.{List}
 use borrow.Author.Needs.{needs}
 use denote.Ref.{now}
 use Rattle.record.specs.declared.notification.Part.{Part}

@@ -1,5 +1,4 @@
 -- `is_known` meets its contract. Assumes nothing.
-use mathlib.Core.Path.{refl}
 use borrow.Author.Tests.{le-leb, lt-leb}
 use Rattle.record.proofs.groups.is_known.Statement.{statement}
 use Rattle.record.proofs.groups.is_known.Tie as tie

@@ -1,5 +1,4 @@
 -- `row_count` meets its contract, kind by kind. Assumes nothing.
-use mathlib.Core.Path.{refl}
 use Rattle.record.specs.Layout.{layout, tables, treadmill, cross-trainer, step-climber, stair-climber, rower, indoor-bike}
 use Rattle.record.proofs.Arms.{no-kind}
 use Rattle.record.proofs.layout.row_count.Statement.{statement}

@@ -1,5 +1,5 @@
 -- `names` meets its contract: the sum and the difference turn bit 0 over. Assumes nothing.
-use Prim.Native.Nat.{_+_, _-_, _*_, _%_, _^_, _<_}
+use Prim.Native.Nat.{_+_, _-_, _^_, _<_}
 use mathlib.Core.Path.{_≡_, ap₂}
 use native.Mathlib.Omega.{arith}
 use borrow.Author.Needs.{needs}

@@ -1,5 +1,5 @@
 -- `part_of` meets its contract: each return rewrites with the tests that led there. Assumes nothing.
-use Prim.Native.Nat.{ℕ, _+_, _≤_, _<_}
+use Prim.Native.Nat.{ℕ, _+_, _≤_}
 use mathlib.Core.Path.{_≡_, refl, sym, ap, ap₂, _∙_}
 use mathlib.Core.Bool.{true, false}
 use native.Mathlib.Omega.{arith}
@@ -8,7 +8,7 @@ use borrow.Author.Tests.{le-leb, lt-leb, not-true, not-false}
 use denote.Ref.{now}
 use lib.Dec.{leb}
 use lib.ListN.{length}
-use Rattle.record.specs.Groups.{known, flags-octets, set-length, optional}
+use Rattle.record.specs.Groups.{known, flags-octets, set-length}
 use Rattle.record.specs.Notification.{part-of, flags-of, names, heading}
 use Rattle.record.proofs.Tables.{octets-most, flags-most}
 use Rattle.record.proofs.notification.part_of.Statement.{statement}

@@ -1,14 +1,12 @@
 -- `cut_at` meets its contract. The invariant: so many of the record's sets are passed, and those of the groups left follow. Assumes nothing.
-use Prim.Native.Nat.{ℕ, _+_, _-_, _≤_, _<_, _%_, _^_}
-use mathlib.Core.Path.{_≡_, refl, sym, ap, _∙_}
-use mathlib.Core.Bool.{Bool, true, false, cond}
-use mathlib.Core.List.{List, [], _∷_}
+use Prim.Native.Nat.{_+_, _-_, _≤_, _^_}
+use mathlib.Core.Path.{_≡_}
+use mathlib.Core.Bool.{true, false}
+use mathlib.Core.List.{[], _∷_}
 use native.Mathlib.Nat.{mod-le}
 use native.Mathlib.Omega.{arith}
 use borrow.Author.Needs.{needs}
 use borrow.Author.Tests.{le-leb, lt-leb}
-use lib.Dec.{eqb}
-use Rattle.record.specs.Groups.{set-length}
 use Rattle.record.specs.Split.{fits, longest, run, cut}
 use Rattle.record.proofs.Steps.{Reached, start, onward, arrived, cut-last, cut-more}
 use Rattle.record.proofs.split.cut_at.Statement.{statement}

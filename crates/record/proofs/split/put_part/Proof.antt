@@ -1,6 +1,6 @@
 -- `put_part` meets its contract: the flags, and the rows behind them. Assumes nothing.
 use Prim.Native.Nat.{ℕ}
-use mathlib.Core.Path.{_≡_, sym, ap, _∙_}
+use mathlib.Core.Path.{sym, ap, _∙_}
 use mathlib.Core.List.{List}
 use native.Mathlib.Nat.{zero-add}
 use borrow.Author.Needs.{needs}

@@ -1,13 +1,11 @@
 -- `run` meets its contract. The invariant: the groups below the bit are taken, what they take is counted, and they fit. Assumes nothing.
-use Prim.Native.Nat.{ℕ, _+_, _-_, _*_, _%_, _^_, _≤_, _<_}
+use Prim.Native.Nat.{ℕ, _+_, _-_, _*_, _%_, _^_, _≤_}
 use mathlib.Core.Path.{_≡_, sym, ap, ap₂, _∙_}
-use mathlib.Core.Bool.{true}
 use mathlib.Core.Logic.{⊎-elim}
 use native.Mathlib.Nat.{mod-one, mod-le}
 use native.Mathlib.Omega.{arith}
 use borrow.Author.Needs.{needs}
 use Rattle.record.specs.Groups.{has, set-length}
-use Rattle.record.specs.Split.{run}
 use Rattle.record.proofs.Sets.{mod-next, mod-stays, one-bit}
 use Rattle.record.proofs.Tables.{octets-most, length-none, length-next, length-stays}
 use Rattle.record.proofs.Runs.{run-stops, run-whole}

@@ -1,7 +1,6 @@
 -- `put_sizes` meets its contract. Assumes nothing.
 use Prim.Native.Nat.{_+_, _<_, _≤_}
 use mathlib.Core.Path.{_≡_, ap, _∙_}
-use native.Mathlib.Omega.{arith}
 use borrow.Author.Needs.{needs}
 use Rattle.record.specs.Groups.{listed, flags-octets, set-length}
 use Rattle.record.proofs.Tables.{listed-below, octets-most, flags-most}

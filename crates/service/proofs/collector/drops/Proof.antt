@@ -1,10 +1,10 @@
 -- `drops` meets its contract: by what it was told. Assumes nothing.
 use Prim.Native.Nat.{ℕ}
-use mathlib.Core.Path.{_≡_, sym, ap, _∙_}
+use mathlib.Core.Path.{sym, ap, _∙_}
 use mathlib.Core.Bool.{Bool, false, cond}
 use borrow.Author.Needs.{needs}
 use borrow.Author.Tests.{eq-eqb, ne-eqb}
-use lib.Dec.{eqb, leb}
+use lib.Dec.{leb}
 use Rattle.service.specs.declared.collector.Told.{Told}
 use Rattle.service.specs.Collector.{drops, lowest}
 use Rattle.service.proofs.collector.drops.Statement.{statement}

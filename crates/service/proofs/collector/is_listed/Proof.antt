@@ -5,7 +5,6 @@ use lib.Bits.{bitAnd}
 use lib.Dec.{eqb}
 use Rattle.service.specs.Collector.{told-known}
 use borrow.Author.Needs.{needs}
-use Rattle.service.specs.declared.collector.Told.{Told}
 use Rattle.service.proofs.collector.is_listed.Statement.{statement}
 use Rattle.service.proofs.collector.is_listed.Tie as tie
 

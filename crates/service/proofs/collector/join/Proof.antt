@@ -1,7 +1,7 @@
 -- `join` meets its contract: each return is a case of `joins`. Assumes nothing.
 use Prim.Native.Nat.{ℕ}
-use mathlib.Core.Path.{_≡_, refl, sym, ap, ap₂, _∙_}
-use mathlib.Core.Bool.{Bool, true, false, cond}
+use mathlib.Core.Path.{_≡_, sym, ap, ap₂, _∙_}
+use mathlib.Core.Bool.{Bool, cond}
 use mathlib.Core.List.{List}
 use borrow.Author.Needs.{needs}
 use borrow.Author.Tests.{not-true, not-false}
@@ -10,7 +10,7 @@ use lib.Bits.{bitOr}
 use Rattle.record.specs.Notification.{joined, held-after}
 use Rattle.record.specs.Record.{of-wire}
 use Rattle.service.specs.declared.collector.Collection.{Collection}
-use Rattle.service.specs.Collector.{waiting, handed, Said, Stepped, zeros, collection, incomplete, drops, joins}
+use Rattle.service.specs.Collector.{waiting, handed, Stepped, zeros, collection, incomplete, drops}
 use Rattle.service.proofs.Joining.{read-joins, held-now, numbers-now, waits, lacks, hands}
 use Rattle.service.proofs.collector.join.Statement.{statement}
 use Rattle.service.proofs.collector.join.Tie as tie
