@@ -1,14 +1,18 @@
-// What the programs print with: text, numbers and octets on standard output. The kit has no model of an output, so these promise to be safe and to end.
+// What the programs print with: text, numbers and octets on standard output. The kit has no model of an output, so what prints promises to be safe and to end, and replies nothing.
 use libc::STDOUT_FILENO;
 ghost use mathlib.Core.Path.{_≡_};
 ghost use lib.ListN.{take};
 
-pub fn print(text: &[u8]) {
+pub fn print(text: &[u8])
+    ensures { λ r. ⌜ r ≡ tt ⌝ }
+{
     io::write_all(STDOUT_FILENO, text);
 }
 
 // A number behind its label.
-pub fn print_number(label: &[u8], n: u64) {
+pub fn print_number(label: &[u8], n: u64)
+    ensures { λ r. ⌜ r ≡ tt ⌝ }
+{
     io::write_all(STDOUT_FILENO, label);
     io::print_decimal(STDOUT_FILENO, n);
 }
@@ -24,7 +28,9 @@ fn print_octet(x: u8) {
     print(&text);
 }
 
-pub fn print_octets(s: &[u8]) {
+pub fn print_octets(s: &[u8])
+    ensures { λ r. ⌜ r ≡ tt ⌝ }
+{
     for i in 0..s.len() {
         print_octet(s[i]);
     }
