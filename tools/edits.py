@@ -20,7 +20,6 @@ OTHER = {
 }
 BINARY = {"<", ">", "+", "-", "*", "/", "%", "&", "|", ".."}
 KEYWORDS = {"return", "in", "if", "else", "match", "while", "for", "let", "mut", "as"}
-CLOSING = {")": "(", "]": "[", "}": "{"}
 
 
 class Token:
@@ -49,6 +48,13 @@ def closed(tokens, i):
     return behind(tokens, i + 1, {")", "]", "}"})
 
 
+def body(tokens, i):
+    """The index of the bracket that opens the body of the function whose head is at i: it stands behind the contract."""
+    while tokens[i].text != "{" or tokens[i - 1].text in ("requires", "ensures"):
+        i = closed(tokens, i) if tokens[i].text in "([{" else i + 1
+    return i
+
+
 def running(tokens):
     """The tokens of code that runs: the values of constants, and the bodies of functions."""
     kept, i = [], 0
@@ -63,16 +69,13 @@ def running(tokens):
                 i += 1
             i = closed(tokens, i)
         elif t == "const":
-            i = behind(tokens, i, {"="})
-            end = behind(tokens, i, {";"})
-            kept += tokens[i:end]
-            i = end
+            start = behind(tokens, i, {"="})
+            i = behind(tokens, start, {";"})
+            kept += tokens[start:i]
         elif t == "fn":
-            while tokens[i].text != "{" or tokens[i - 1].text in ("requires", "ensures"):
-                i = closed(tokens, i) if tokens[i].text in "([{" else i + 1
-            end = closed(tokens, i)
-            kept += tokens[i:end]
-            i = end
+            start = body(tokens, i)
+            i = closed(tokens, start)
+            kept += tokens[start:i]
         else:
             i += 1
     return kept
@@ -111,8 +114,9 @@ class Site:
     def __init__(self, source, file, token, candidates):
         text = source.text[file]
         self.file, self.start, self.end, self.old, self.candidates = file, token.start, token.end, token.text, candidates
-        self.line = text.count("\n", 0, token.start) + 1
-        self.shown = text.split("\n")[self.line - 1].strip()
+        line = text.count("\n", 0, token.start) + 1
+        self.place = f"{file}:{line}:{token.start - text.rfind(chr(10), 0, token.start)}"
+        self.shown = text.split("\n")[line - 1].strip()
 
 
 def numeral(text):
@@ -150,7 +154,7 @@ def candidates_of(source, file, tokens, i):
     if token.kind == "sign":
         if token.text == "!":
             return [""]
-        operand = before.kind in ("number",) or before.text in ")]" or before.kind == "word" and before.text not in KEYWORDS
+        operand = before.kind == "number" or before.text in ")]" or before.kind == "word" and before.text not in KEYWORDS
         if token.text in BINARY and not operand:
             return []
         return OTHER.get(token.text, [])
@@ -177,6 +181,23 @@ def sites_of(source, file):
         candidates = candidates_of(source, file, tokens, i)
         if candidates:
             found.append(Site(source, file, token, candidates))
+    return found
+
+
+def constant_sites(source):
+    """A place in the value of each constant that is no table: its first token that an edit may change."""
+    found = []
+    for file in source.files:
+        tokens = tokens_of(source.text[file])
+        for i, token in enumerate(tokens):
+            start = behind(tokens, i, {"="})
+            if token.text != "const" or tokens[start].text == "[":
+                continue
+            for j in range(start, behind(tokens, start, {";"})):
+                candidates = candidates_of(source, file, tokens, j)
+                if candidates:
+                    found.append(Site(source, file, tokens[j], candidates))
+                    break
     return found
 
 
@@ -234,14 +255,9 @@ def region(text, name, old):
     tokens = tokens_of(text)
     for i, token in enumerate(tokens):
         if token.text == name and i and tokens[i - 1].text in ("fn", "const"):
-            if tokens[i - 1].text == "const":
-                end = behind(tokens, behind(tokens, i, {"="}), {";"})
-            else:
-                j = i
-                while tokens[j].text != "{" or tokens[j - 1].text in ("requires", "ensures"):
-                    j = closed(tokens, j) if tokens[j].text in "([{" else j + 1
-                i, end = j, closed(tokens, j)
-            start, stop = tokens[i].start, tokens[end - 1].end
+            first = behind(tokens, i, {"="}) if tokens[i - 1].text == "const" else body(tokens, i)
+            last = behind(tokens, first, {";"}) if tokens[i - 1].text == "const" else closed(tokens, first)
+            start, stop = tokens[first].start, tokens[last - 1].end
             if text.count(old, start, stop) != 1:
                 sys.exit(f"strength: `{old}` stands {text.count(old, start, stop)} times in {name}")
             return text.index(old, start)

@@ -2,6 +2,7 @@
 """Edits the code of the libraries and asks the prover to refuse each edit.
 
     python3 tools/strength.py                   a random sample of 60 edits of one token each, from a fixed seed
+    python3 tools/strength.py --constants       an edit of each constant that is no table
     python3 tools/strength.py --wrong           the wrong programs of tools/wrong.txt, two for each public function
     python3 tools/strength.py --list            the places that the sample is drawn from, and proves nothing
 
@@ -26,7 +27,7 @@ import time
 
 sys.dont_write_bytecode = True
 
-from edits import LIBRARIES, Source, full_name, region, sites_of, untried, wrong_programs
+from edits import LIBRARIES, Source, constant_sites, full_name, region, sites_of, untried, wrong_programs
 
 SEED = 20260101
 COUNT = 60
@@ -119,27 +120,33 @@ def told(verdict, where):
     return f"`{where}`" if verdict == "refused" else f"**{verdict}** {where}"
 
 
-def sample(copy, seed, count, skip, report):
+def sample(copy, asked):
+    """A random sample, of one candidate at a place; or, of the constants, the first candidate that is a program."""
     source = Source(os.path.join(ROOT, "crates"))
-    sites = [site for file in source.files if not any(word in file for word in skip) for site in sites_of(source, file)]
-    draw = random.Random(seed)
-    draw.shuffle(sites)
+    draw = random.Random(asked.seed)
+    if asked.constants:
+        sites, count = constant_sites(source), None
+    else:
+        skip = [word for word in asked.skip.split(",") if word]
+        sites, count = [site for file in source.files if not any(word in file for word in skip) for site in sites_of(source, file)], asked.n
+        draw.shuffle(sites)
     tally, rows = {}, []
     for site in sites:
         if len(rows) == count:
             break
-        new = draw.choice(site.candidates)
-        began = time.time()
-        verdict, where = copy.judge(site.file, site.start, site.end, new)
-        tally[verdict] = tally.get(verdict, 0) + 1
-        number = "-" if verdict == "no program" else str(len(rows) + 1)
-        print(f"{number} {site.file}:{site.line} `{site.shown}` {site.old} -> {new or '(nothing)'}: {verdict} {where} "
-              f"({time.time() - began:.0f} s)", flush=True)
-        if verdict != "no program":
-            rows.append(f"| {number} | `{site.file}:{site.line}` | `{short(site.shown)}` | `{short(site.old)}` → `{short(new)}` | {told(verdict, where)} |")
-    print(f"{len(sites)} places, seed {seed}: " + ", ".join(f"{n} {verdict}" for verdict, n in sorted(tally.items())))
-    if report:
-        with open(report, "w") as out:
+        for new in site.candidates if asked.constants else [draw.choice(site.candidates)]:
+            began = time.time()
+            verdict, where = copy.judge(site.file, site.start, site.end, new)
+            tally[verdict] = tally.get(verdict, 0) + 1
+            number = "-" if verdict == "no program" else str(len(rows) + 1)
+            print(f"{number} {site.place} `{site.shown}` {site.old} -> {new or '(nothing)'}: {verdict} {where} "
+                  f"({time.time() - began:.0f} s)", flush=True)
+            if verdict != "no program":
+                rows.append(f"| {number} | `{site.place}` | `{short(site.shown)}` | `{short(site.old)}` → `{short(new)}` | {told(verdict, where)} |")
+                break
+    print(f"{len(sites)} places, seed {asked.seed}: " + ", ".join(f"{n} {verdict}" for verdict, n in sorted(tally.items())))
+    if asked.report:
+        with open(asked.report, "w") as out:
             out.write("| no. | place | line | edit | first refused at |\n|---|---|---|---|---|\n" + "\n".join(rows) + "\n")
     return tally.keys() <= {"refused", "no program"}
 
@@ -171,6 +178,7 @@ def main():
     words = argparse.ArgumentParser(description=__doc__, formatter_class=argparse.RawDescriptionHelpFormatter)
     words.add_argument("-n", type=int, default=COUNT)
     words.add_argument("--seed", type=int, default=SEED)
+    words.add_argument("--constants", action="store_true")
     words.add_argument("--wrong", action="store_true")
     words.add_argument("--list", action="store_true")
     words.add_argument("--only", default="")
@@ -182,14 +190,14 @@ def main():
         source = Source(os.path.join(ROOT, "crates"))
         for file in source.files:
             for site in sites_of(source, file):
-                print(f"{site.file}:{site.line} {site.old} -> {' '.join(c or '(nothing)' for c in site.candidates)}")
+                print(f"{site.place} {site.old} -> {' '.join(c or '(nothing)' for c in site.candidates)}")
         return
     copy = Copy(os.path.abspath(asked.copy))
     copy.warm()
     if asked.wrong:
         good = wrong(copy, asked.only, asked.report)
     else:
-        good = sample(copy, asked.seed, asked.n, [word for word in asked.skip.split(",") if word], asked.report)
+        good = sample(copy, asked)
     copy.warm()
     sys.exit(0 if good else 1)
 
