@@ -13,7 +13,8 @@
 
 An edit is made in a copy of the repository; its crate is checked there by `rt dev`, and the file is put back. `refused`: the prover does not
 prove the crate. `no program`: the compiler takes no such text; the edit says nothing, and another is drawn. `survived`: the crate is still
-proved, and so is every library above it. One prover runs at a time. The exit status is 0 where nothing survived.
+proved, and so is every library above it. One prover runs at a time; what it said last is in the copy's target/last.out. The exit status is 0
+where nothing survived.
 """
 import argparse
 import os
