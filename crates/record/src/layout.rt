@@ -17,9 +17,7 @@ pub const ROWER: u8 = 5;
 
 pub const INDOOR_BIKE: u8 = 6;
 
-// How many fields there are; each is a place among a record's wire numbers.
-pub const FIELDS: usize = 31;
-
+// The fields: each is a place among a record's 31 wire numbers.
 pub const SPEED: u8 = 0;
 
 pub const FLOORS: u8 = 1;
