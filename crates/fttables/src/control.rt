@@ -3,6 +3,7 @@ use crate::feature::put_feature;
 use crate::orders::put_orders;
 use crate::refusals::put_refusals;
 use crate::words::put_word;
+use machine::judging::first_result;
 use machine::op_codes::Bound;
 use machine::op_codes::Need;
 use machine::op_codes::Row;
@@ -115,13 +116,37 @@ fn put_op_codes(out: &mut [u8], at: usize) -> usize {
     put_bytes(out, next, b"\n")
 }
 
-// The results, in the order in which they are judged.
+// The line of a result, with when it is given, one of some words.
+fn put_result(out: &mut [u8], at: usize, result: u8, which: u8) -> usize {
+    let a = put_bytes(out, at, b"| ");
+    let b = put_hex(out, a, result);
+    let c = put_bytes(out, b, b" | ");
+    let d = put_word(
+        out,
+        c,
+        b"the op code is not supported\nthe client does not hold control (but for 00)\nwrong length, a value outside its range, or 08 with neither 1 nor 2\n00 finds another holder, 07 finds running, 08 with 1 finds stopped, or 08 with 2 finds anything but running\nelse: success\n",
+        which,
+    );
+    put_bytes(out, d, b" |\n")
+}
+
+// The results in the order in which they are judged: each is what is given where nothing before it is amiss.
+fn put_result_rows(out: &mut [u8], at: usize) -> usize {
+    let a = put_result(out, at, first_result(false, false, false, true), 0);
+    let b = put_result(out, a, first_result(true, false, false, true), 1);
+    let c = put_result(out, b, first_result(true, true, false, true), 2);
+    let d = put_result(out, c, first_result(true, true, true, true), 3);
+    put_result(out, d, first_result(true, true, true, false), 4)
+}
+
 fn put_results(out: &mut [u8], at: usize) -> usize {
-    put_bytes(
+    let a = put_bytes(
         out,
         at,
-        b"## Results\n\nThe first that applies:\n\n| result | given when |\n|---|---|\n| 02 | the op code is not supported |\n| 05 | the client does not hold control (but for 00) |\n| 03 | wrong length, a value outside its range, or 08 with neither 1 nor 2 |\n| 04 | 00 finds another holder, 07 finds running, 08 with 1 finds stopped, or 08 with 2 finds anything but running |\n| 01 | else: success |\n\n",
-    )
+        b"## Results\n\nThe first that applies:\n\n| result | given when |\n|---|---|\n",
+    );
+    let b = put_result_rows(out, a);
+    put_bytes(out, b, b"\n")
 }
 
 pub(crate) fn put_control(out: &mut [u8], at: usize) -> usize {

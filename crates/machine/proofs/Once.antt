@@ -2,6 +2,7 @@
 use Rattle.record.proofs.Once.{Once, same}
 use Rattle.machine.proofs.effects.perform.Reads as perform
 use Rattle.machine.proofs.effects.setting.Reads as setting
+use Rattle.machine.proofs.judging.first_result.Reads as first-result
 use Rattle.machine.proofs.machine.is_client.Reads as is-client
 use Rattle.machine.proofs.machine.someone.Reads as someone
 use Rattle.machine.proofs.machine.without.Reads as without
@@ -13,8 +14,8 @@ use Rattle.machine.proofs.octets.none.Reads as none
 use Rattle.machine.proofs.op_codes.row_of.Reads as row-of
 use Rattle.machine.proofs.ranges.in_order.Reads as in-order
 
-pub writes-once : Once perform.Post × Once setting.Post
-writes-once = (λ κs a x y s t. same, λ κs a x y s t. same)
+pub writes-once : Once perform.Post × Once first-result.Post × Once setting.Post
+writes-once = (λ κs a x y s t. same, λ κs a x y s t. same, λ κs a x y s t. same)
 
 pub tables-once : Once row-of.Post × Once in-order.Post × Once none.Post
 tables-once = (λ κs a x y s t. same, λ κs a x y s t. same, λ κs a x y s t. same)

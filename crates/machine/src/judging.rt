@@ -127,7 +127,7 @@ fn fails(holder: Who, mode: Mode, client: u8, act: Act, x: u8) -> bool
 }
 
 // The first result that applies.
-fn first_result(supported: bool, controlled: bool, fitting: bool, failing: bool) -> u8
+pub fn first_result(supported: bool, controlled: bool, fitting: bool, failing: bool) -> u8
     ensures { λ r. ⌜ r ≡ first-of supported controlled fitting failing ⌝ }
 {
     if !supported {

@@ -1,6 +1,6 @@
 // The machine behind the control point: its op codes and ranges, its state, the result of each op code and what its success does.
 pub mod effects;
-mod judging;
+pub mod judging;
 pub mod machine;
 pub mod octets;
 pub mod op_codes;
