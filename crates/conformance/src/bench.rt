@@ -146,3 +146,8 @@ pub(crate) fn run_feature() {
         print(b": FAIL\n");
     }
 }
+
+pub(crate) fn run(case: &[u8], machine: Machine, sent: &[u8], status: &[u8]) {
+    let b = begin(case, machine);
+    finish(exchange(b, sent, 0x01, status), b"");
+}

@@ -4,13 +4,9 @@ use crate::bench::exchange;
 use crate::bench::finish;
 use crate::bench::holding;
 use crate::bench::paused;
+use crate::bench::run;
 use crate::bench::running;
 use machine::machine::Machine;
-
-fn run(case: &[u8], machine: Machine, sent: &[u8], status: &[u8]) {
-    let b = begin(case, machine);
-    finish(exchange(b, sent, 0x01, status), b"");
-}
 
 // A write by a client that holds control, to a machine that is stopped.
 fn grant(case: &[u8], sent: &[u8], status: &[u8]) {

@@ -61,3 +61,8 @@ pub ends : (decimal 0 ≡ ascii "0") × (decimal 255 ≡ ascii "255") × (decima
     × (integer (negsuc 32767) ≡ ascii "-32768") × (integer (negsuc 0) ≡ ascii "-1") × (integer (pos 0) ≡ ascii "0") × (integer (pos 32767) ≡ ascii "32767")
 unfolding decimal integer
 ends = (refl, refl, refl, refl, refl, refl, refl, refl)
+
+-- document 01's own flags, in hex
+pub in-hex : (hex 0x7F ≡ ascii "7F") × (hex 0 ≡ ascii "00") × (hex 0xC1 ≡ ascii "C1") × (hex 0xFF ≡ ascii "FF")
+unfolding hex
+in-hex = (refl, refl, refl, refl)
