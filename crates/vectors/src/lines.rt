@@ -1,8 +1,8 @@
 // Cases in lines of text.
+use crate::printing::between;
 use crate::refusals::read_case;
 use crate::steps::after;
 use crate::steps::opened;
-use crate::text::between;
 use output::first;
 use output::print;
 use service::collector::Collection;

@@ -3,11 +3,11 @@
 mod collections;
 mod lines;
 mod plain;
+mod printing;
 mod refusals;
 mod runs;
 mod samples;
 mod steps;
-mod text;
 
 fn main() {
     runs::run_all();

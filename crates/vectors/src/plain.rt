@@ -1,7 +1,7 @@
 // Numbers and the Feature value from octets and back.
-use crate::text::UNTOUCHED;
-use crate::text::print_refusal;
-use crate::text::print_signed;
+use crate::printing::UNTOUCHED;
+use crate::printing::print_refusal;
+use crate::printing::print_signed;
 use output::print;
 use output::print_number;
 use output::print_octets;

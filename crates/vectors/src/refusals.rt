@@ -1,18 +1,18 @@
 // What is refused, by which number, and what is left as it was.
 use crate::lines::By;
 use crate::lines::run_lines;
+use crate::printing::LENT;
+use crate::printing::UNTOUCHED;
+use crate::printing::is_untouched;
+use crate::printing::print_either;
+use crate::printing::print_refusal;
+use crate::printing::print_signed;
+use crate::printing::print_u16;
 use crate::runs::print_record;
 use crate::runs::same_numbers;
 use crate::samples::Values;
 use crate::samples::put_number;
 use crate::samples::sample;
-use crate::text::LENT;
-use crate::text::UNTOUCHED;
-use crate::text::is_untouched;
-use crate::text::print_either;
-use crate::text::print_refusal;
-use crate::text::print_signed;
-use crate::text::print_u16;
 use output::first;
 use output::print;
 use output::print_number;

@@ -1,10 +1,10 @@
 // Records in parts, each part read again.
+use crate::printing::LENT;
+use crate::printing::UNTOUCHED;
+use crate::printing::print_either;
+use crate::printing::print_refusal;
 use crate::samples::Values;
 use crate::samples::sample;
-use crate::text::LENT;
-use crate::text::UNTOUCHED;
-use crate::text::print_either;
-use crate::text::print_refusal;
 use output::first;
 use output::print;
 use output::print_number;

@@ -1,9 +1,9 @@
 // A collection, opened and given notifications, each with what is answered.
+use crate::printing::print_either;
+use crate::printing::print_refusal;
 use crate::runs::print_record;
 use crate::samples::is_present;
 use crate::samples::number_at;
-use crate::text::print_either;
-use crate::text::print_refusal;
 use output::first;
 use output::print;
 use output::print_number;

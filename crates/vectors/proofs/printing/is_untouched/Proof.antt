@@ -2,8 +2,8 @@
 use Prim.Native.Nat.{_-_}
 use borrow.Author.Needs.{needs}
 use lib.ListN.{length}
-use Rattle.vectors.proofs.text.is_untouched.Statement.{statement}
-use Rattle.vectors.proofs.text.is_untouched.Tie as tie
+use Rattle.vectors.proofs.printing.is_untouched.Statement.{statement}
+use Rattle.vectors.proofs.printing.is_untouched.Tie as tie
 
 abbrev Inv-loop : tie.InvT-loop
 Inv-loop buffer from i₀ i = Unit {0}
