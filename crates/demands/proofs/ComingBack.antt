@@ -8,7 +8,7 @@ use native.Mathlib.Omega.{arith}
 use lib.ListN.{length, replicate}
 use Rattle.record.specs.declared.record.Record.{Record}
 use Rattle.record.specs.Record.{wire, of-wire, well-formed}
-use Rattle.record.specs.Groups.{flags-octets}
+use Rattle.kinds.specs.Groups.{flags-octets}
 use Rattle.record.specs.Split.{payload-known, fits, run, cut, sets-of, part-octets}
 use Rattle.record.proofs.Records.{formed-facts, formed-in-types, numbers-again}
 use Rattle.service.specs.declared.collector.Told.the-variants.{Open}

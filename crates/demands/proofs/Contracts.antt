@@ -12,9 +12,9 @@ use denote.Triple.Clauses.{AtExit}
 use borrow.Author.Tests.{le-leb}
 use Rattle.record.specs.declared.record.Record.{Record}
 use Rattle.record.specs.declared.split.SplitAnswer.{SplitAnswer}
-use Rattle.record.specs.Answer.{given}
+use Rattle.wire.specs.Answer.{given}
 use Rattle.record.specs.Split.{meant}
-use Rattle.record.proofs.Sets.{eqb-true}
+use Rattle.kinds.proofs.Sets.{eqb-true}
 use Rattle.record.proofs.split.split.Kinds as kinds
 use Rattle.record.proofs.split.split.Reads as split
 use Rattle.service.proofs.collector.collect.Kinds as collect-kinds

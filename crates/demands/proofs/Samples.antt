@@ -10,9 +10,9 @@ use mir.Syntax.{w16}
 use mir.Val.{SFits}
 use mir.Facts.{sfits-toZ}
 use Rattle.record.specs.declared.record.Record.{Record}
-use Rattle.record.specs.Layout.{layout, tables, cross-trainer, step-climber, indoor-bike}
-use Rattle.record.specs.Groups.{has, named, size, groups-of, listed}
-use Rattle.record.specs.Octets.{signed, spelled}
+use Rattle.kinds.specs.Layout.{layout, tables, cross-trainer, step-climber, indoor-bike}
+use Rattle.kinds.specs.Groups.{has, named, size, groups-of, listed}
+use Rattle.wire.specs.Octets.{signed, spelled}
 use Rattle.record.specs.Record.{of-wire, wire, all-fit, others, all-zero, formed, in-types}
 use Rattle.record.specs.Split.{longest, cut, written, octets, sets-of}
 use Rattle.record.proofs.Records.{numbers-again, formed-in-types}

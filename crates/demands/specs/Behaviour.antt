@@ -8,7 +8,7 @@ use mathlib.Core.List.{List, [], _∷_}
 use lib.ListN.{length, take, replicate}
 use Rattle.record.specs.declared.record.Record.{Record}
 use Rattle.record.specs.declared.split.Extent.{Extent}
-use Rattle.record.specs.Answer.{Answer, refused, given}
+use Rattle.wire.specs.Answer.{Answer, refused, given}
 use Rattle.record.specs.Split.{split-of, lent-after}
 use Rattle.service.specs.declared.collector.Told.{Told}
 use Rattle.service.specs.declared.collector.Collection.{Collection}

@@ -6,9 +6,9 @@ use mathlib.Core.List.{List, [], _∷_, map}
 use lib.IntN.{ℤ, negsuc}
 use lib.ListN.{length, take}
 use Rattle.record.specs.declared.record.Record.{Record}
-use Rattle.record.specs.Groups.{known, listed, flags-octets}
-use Rattle.record.specs.Octets.{number, signed}
-use Rattle.record.specs.Answer.{refused}
+use Rattle.kinds.specs.Groups.{known, listed, flags-octets}
+use Rattle.wire.specs.Octets.{number, signed}
+use Rattle.wire.specs.Answer.{refused}
 use Rattle.record.specs.Split.{sets-of, octets, split-of}
 use Rattle.service.specs.Control.Cases as Control
 

@@ -1,9 +1,10 @@
 -- No second reply, state or lent content meets the contracts of the listing.
 use mathlib.Core.Path.{_≡_, sym, ap, _∙_}
 use denote.Ref.{now}
-use Rattle.record.specs.Refusal.{number-of}
-use Rattle.record.proofs.Once.{Once, LeftOnce, number-same, value-same, never}
-use Rattle.record.proofs.RefusalLaws.{number-once}
+use Rattle.wire.specs.Refusal.{number-of}
+use Rattle.kinds.proofs.Once.{Once, LeftOnce}
+use Rattle.wire.proofs.Once.{number-same, value-same, never}
+use Rattle.wire.proofs.RefusalLaws.{number-once}
 use Rattle.listing.specs.declared.capture.ListAnswer.{ListAnswer}
 use Rattle.listing.specs.declared.capture.ListAnswer.the-variants.{Listed, Refused}
 use Rattle.listing.specs.Listing.{meant}

@@ -8,12 +8,12 @@ use native.Mathlib.Omega.{arith}
 use borrow.Author.Tests.{lt-ltb, le-ltb}
 use lib.ListN.{length, getD, take}
 use lib.Seq.{take-suc, take-all}
-use Rattle.record.specs.declared.layout.Row.{Row}
+use Rattle.kinds.specs.declared.layout.Row.{Row}
 use Rattle.record.specs.declared.record.Record.{Record}
-use Rattle.record.specs.Layout.{layout}
-use Rattle.record.specs.Groups.{has, optional}
+use Rattle.kinds.specs.Layout.{layout}
+use Rattle.kinds.specs.Groups.{has, optional}
 use Rattle.record.specs.Record.{wire}
-use Rattle.record.specs.Octets as Octets
+use Rattle.wire.specs.Octets as Octets
 use Rattle.listing.specs.Lines.{value, field-line, field-lines, head-lines, record-lines}
 use Rattle.text.specs.Names.{name}
 use Rattle.text.specs.Text.{decimal, integer, line, Wrote}

@@ -3,13 +3,13 @@ use Prim.Native.Nat.{ℕ, _+_, _%_, _^_}
 use mathlib.Core.Bool.{cond}
 use mathlib.Core.List.{List, [], _∷_, _++_}
 use lib.ListN.{getD}
-use Rattle.record.specs.declared.layout.Row.{Row}
-use Rattle.record.specs.declared.layout.Width.{Width}
-use Rattle.record.specs.declared.layout.Width.the-variants.{U8, U16, U24, S16}
+use Rattle.kinds.specs.declared.layout.Row.{Row}
+use Rattle.kinds.specs.declared.layout.Width.{Width}
+use Rattle.kinds.specs.declared.layout.Width.the-variants.{U8, U16, U24, S16}
 use Rattle.record.specs.declared.record.Record.{Record}
-use Rattle.record.specs.Layout.{layout}
-use Rattle.record.specs.Groups.{has, optional}
-use Rattle.record.specs.Octets.{signed}
+use Rattle.kinds.specs.Layout.{layout}
+use Rattle.kinds.specs.Groups.{has, optional}
+use Rattle.wire.specs.Octets.{signed}
 use Rattle.record.specs.Record.{wire}
 use Rattle.text.specs.Names.{name}
 use Rattle.text.specs.Text.{ascii, decimal, integer, line}

@@ -4,11 +4,11 @@ use mathlib.Core.Bool.{cond}
 use mathlib.Core.List.{List, [], _∷_, _++_}
 use lib.Dec.{eqb, leb, ltb}
 use lib.ListN.{length, take, drop}
-use Rattle.record.specs.Answer.{Answer, given, provided, after}
-use Rattle.record.specs.Answer as Answer
-use Rattle.record.specs.Groups.{known}
-use Rattle.record.specs.Octets.{number, over}
-use Rattle.record.specs.Refusal.{number-of}
+use Rattle.wire.specs.Answer.{Answer, given, provided, after}
+use Rattle.wire.specs.Answer as Answer
+use Rattle.kinds.specs.Groups.{known}
+use Rattle.wire.specs.Octets.{number, over}
+use Rattle.wire.specs.Refusal.{number-of}
 use Rattle.service.specs.declared.collector.Collection.{Collection}
 use Rattle.service.specs.declared.collector.Told.the-variants.{Open}
 use Rattle.service.specs.Collector.{Said, waiting, handed, refused, empty, collect}

@@ -1,9 +1,9 @@
 -- Listings as theorems, by computation.
 use mathlib.Core.Path.{_≡_, refl}
 use mathlib.Core.List.{[], _∷_}
-use Rattle.record.specs.Layout.{layout, tables, treadmill, cross-trainer, step-climber, stair-climber, rower, indoor-bike}
-use Rattle.record.specs.Groups.{has, named, size, groups-of, listed}
-use Rattle.record.specs.Octets.{number}
+use Rattle.kinds.specs.Layout.{layout, tables, treadmill, cross-trainer, step-climber, stair-climber, rower, indoor-bike}
+use Rattle.kinds.specs.Groups.{has, named, size, groups-of, listed}
+use Rattle.wire.specs.Octets.{number}
 use Rattle.record.specs.Notification.{part-of, read-into, values}
 use Rattle.service.specs.Collector.{joins, collect}
 use Rattle.text.specs.Text.{ascii, decimal, integer, line}

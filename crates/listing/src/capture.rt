@@ -1,9 +1,9 @@
 // The listing of a capture, one notification at a time and whole.
 use crate::lines::put_record;
 use crate::lines::put_refused;
-use record::groups::is_known;
-use record::octets::u16_at;
-use record::refusal::Refusal;
+use kinds::groups::is_known;
+use wire::octets::u16_at;
+use wire::refusal::Refusal;
 use service::collector::Collected;
 use service::collector::Collection;
 use service::collector::Told;

@@ -1,12 +1,12 @@
 // The lines of a record and of a refusal.
-use record::groups::has;
-use record::layout::Row;
-use record::layout::Width;
-use record::layout::row_count;
-use record::layout::row_of;
+use kinds::groups::has;
+use kinds::layout::Row;
+use kinds::layout::Width;
+use kinds::layout::row_count;
+use kinds::layout::row_of;
 use record::numbers::numbers_of;
 use record::record::Record;
-use record::refusal::Refusal;
+use wire::refusal::Refusal;
 use text::names::DIRECTION;
 use text::names::GROUPS;
 use text::names::KIND;
@@ -20,9 +20,9 @@ use text::text::put_line;
 ghost use mathlib.Core.Path.{_≡_};
 ghost use Prim.Native.Nat.{_%_, _^_};
 ghost use lib.ListN.{getD};
-ghost use Rattle.record.specs.Layout.{layout};
-ghost use Rattle.record.specs.Octets.{signed};
-ghost use Rattle.record.specs.Refusal.{number-of};
+ghost use Rattle.kinds.specs.Layout.{layout};
+ghost use Rattle.wire.specs.Octets.{signed};
+ghost use Rattle.wire.specs.Refusal.{number-of};
 ghost use Rattle.listing.specs.Lines.{value, field-line, field-lines, head-lines, record-lines, refused-line};
 ghost use Rattle.text.specs.Text.{Wrote, integer};
 

@@ -6,7 +6,7 @@ use mathlib.Core.List.{List, [], _∷_, _++_}
 use native.Mathlib.Omega.{arith}
 use lib.Dec.{eqb, leb, leb→le}
 use lib.ListN.{length, getD}
-use Rattle.record.specs.Octets.{number}
+use Rattle.wire.specs.Octets.{number}
 use Rattle.machine.specs.declared.ranges.Ranges.{Ranges}
 use Rattle.machine.specs.declared.op_codes.Need.the-variants.{Never}
 use Rattle.machine.specs.declared.op_codes.Bound.the-variants.{Free}

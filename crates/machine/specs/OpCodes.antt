@@ -2,9 +2,9 @@
 use Prim.Native.Nat.{ℕ, _+_}
 use mathlib.Core.List.{List, [], _∷_}
 use lib.ListN.{getD}
-use Rattle.record.specs.declared.layout.Width.{Width}
-use Rattle.record.specs.declared.layout.Width.the-variants.{U8, U16, U24, S16}
-use Rattle.record.specs.Layout.{octets-of}
+use Rattle.kinds.specs.declared.layout.Width.{Width}
+use Rattle.kinds.specs.declared.layout.Width.the-variants.{U8, U16, U24, S16}
+use Rattle.kinds.specs.Layout.{octets-of}
 use Rattle.machine.specs.declared.op_codes.Row
 use Rattle.machine.specs.declared.op_codes.Need.{Need}
 use Rattle.machine.specs.declared.op_codes.Need.the-variants.{Always, Never, Bit}

@@ -3,7 +3,7 @@ use crate::ranges::HeartRateRange;
 use crate::ranges::Ranges;
 use crate::ranges::SignedRange;
 use crate::ranges::SpeedRange;
-use record::feature::Feature;
+use wire::feature::Feature;
 ghost use mathlib.Core.Path.{_≡_};
 ghost use Rattle.machine.specs.Machine.{is, someone as Machine·someone, without as Machine·without, fresh as Machine·fresh, no-machine, linked as Machine·linked, awaiting as Machine·awaiting, held-by as Machine·held-by, going as Machine·going, storing, cleared};
 

@@ -1,17 +1,17 @@
 // Splitting the record that one notification holds.
-use record::groups::is_known;
+use kinds::groups::is_known;
 use record::notification::Part;
 use record::notification::PartAnswer;
 use record::notification::read;
-use record::refusal::Refusal;
+use wire::refusal::Refusal;
 use record::split::SplitAnswer;
 use record::split::is_payload;
 use record::split::split_numbers;
 ghost use mathlib.Core.Path.{_≡_};
 ghost use mathlib.Core.Bool.{true};
 ghost use lib.ListN.{length};
-ghost use Rattle.record.specs.Answer.{after, provided};
-ghost use Rattle.record.specs.Octets.{over};
+ghost use Rattle.wire.specs.Answer.{after, provided};
+ghost use Rattle.wire.specs.Octets.{over};
 ghost use Rattle.record.specs.Notification.{part-of};
 ghost use Rattle.record.specs.Split.{meant, octets, set-at, split-wire};
 ghost use Rattle.phone.specs.Host.{code, told, from-answer, octets-from, split-answer, split-lent};

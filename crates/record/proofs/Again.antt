@@ -11,15 +11,15 @@ use lib.Seq.{take-at}
 use borrow.Author.Tests.{leb-true}
 use Rattle.record.specs.declared.record.Record.{Record}
 use Rattle.record.specs.declared.notification.Part.{Part}
-use Rattle.record.specs.Layout.{layout}
-use Rattle.record.specs.Groups.{named, flags-octets, set-length, optional}
-use Rattle.record.specs.Octets.{over}
-use Rattle.record.specs.Answer.{Answer, given, after}
+use Rattle.kinds.specs.Layout.{layout}
+use Rattle.kinds.specs.Groups.{named, flags-octets, set-length, optional}
+use Rattle.wire.specs.Octets.{over}
+use Rattle.wire.specs.Answer.{Answer, given, after}
 use Rattle.record.specs.Record.{wire, well-formed, kept, Formed}
 use Rattle.record.specs.Notification.{part-of, joined, held-after}
 use Rattle.record.specs.Split.{payload-known, sets-of, set-at, part-octets}
 use Rattle.record.specs.Parts.{PartsOf}
-use Rattle.record.proofs.Sets.{Sub, and-l, and-r, has-zero}
+use Rattle.kinds.proofs.Sets.{Sub, and-l, and-r, has-zero}
 use Rattle.record.proofs.Records.{formed-facts}
 use Rattle.record.proofs.Parts.{part-again, values-again}
 use Rattle.record.proofs.Partition.{parts-of}

@@ -6,10 +6,10 @@ use native.Mathlib.Omega.{arith}
 use native.Mathlib.Nat.{zero-mod, mul-mod-left, mul-assoc, add-mul, zero-mul, mul-div-mul-right}
 use lib.Dec.{leb, eqb}
 use lib.Pow.{pow-pos, pow-add, split, shl-shr, mod-pow-add, mod-mod-pow}
-use Rattle.record.specs.Groups.{set-length}
+use Rattle.kinds.specs.Groups.{set-length}
 use Rattle.record.specs.Split.{fits, longest, cut}
-use Rattle.record.proofs.Sets.{passed, failed, tested, leb-le, leb-lt, eqb-eq, eqb-ne, low-bit}
-use Rattle.record.proofs.Tables.{Sound}
+use Rattle.kinds.proofs.Sets.{passed, failed, tested, leb-le, leb-lt, eqb-eq, eqb-ne, low-bit}
+use Rattle.kinds.proofs.Tables.{Sound}
 use Rattle.record.proofs.Runs.{longest-fits, longest-le, longest-ge}
 
 -- a cut of the groups q * 2 ^ b, all of which stand at bit b or above

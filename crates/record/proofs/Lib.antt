@@ -1,10 +1,3 @@
-pub mod Arms
-pub mod OctetLaws
-pub mod RefusalLaws
-pub mod FeatureLaws
-pub mod Sets
-pub mod Rows
-pub mod Tables
 pub mod Turns
 pub mod Records
 pub mod Reading

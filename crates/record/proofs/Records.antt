@@ -16,14 +16,14 @@ use mir.Syntax.{w16}
 use mir.Val.{SFits}
 use mir.Facts.{toZ-ofZ, ofZ-toZ}
 use borrow.Author.Tests.{ltb-true, lt-ltb, leb-true, ne-eqb}
-use Rattle.record.specs.declared.layout.Row.{Row}
+use Rattle.kinds.specs.declared.layout.Row.{Row}
 use Rattle.record.specs.declared.record.Record.{Record}
-use Rattle.record.specs.Layout.{layout, octets-of, tables, treadmill, cross-trainer, step-climber, stair-climber, rower, indoor-bike}
-use Rattle.record.specs.Groups.{has, named, listed, known, within}
-use Rattle.record.specs.Octets.{signed, unsigned}
+use Rattle.kinds.specs.Layout.{layout, octets-of, tables, treadmill, cross-trainer, step-climber, stair-climber, rower, indoor-bike}
+use Rattle.kinds.specs.Groups.{has, named, listed, known, within}
+use Rattle.wire.specs.Octets.{signed, unsigned}
 use Rattle.record.specs.Record.{wire, of-wire, all-fit, others, all-zero, formed, kept, Formed, type-bits, bits-within, in-types, Typed}
-use Rattle.record.proofs.Sets.{passed, failed, tested, eqb-eq, eqb-ne, and-l, and-r}
-use Rattle.record.proofs.Tables.{all, all-at}
+use Rattle.kinds.proofs.Sets.{passed, failed, tested, eqb-eq, eqb-ne, and-l, and-r}
+use Rattle.kinds.proofs.Tables.{all, all-at}
 use Rattle.record.proofs.Turns.{tests}
 
 -- ---- signed numbers that went through their bits

@@ -7,9 +7,9 @@ use native.Mathlib.Numerals.{add-one}
 use lib.Dec.{eqb, leb}
 use lib.ListN.{length, getD, drop, drop-of-length-le}
 use lib.Seq.{drop-cons}
-use Rattle.record.specs.declared.layout.Row.{Row}
-use Rattle.record.specs.Layout.{layout, no-row}
-use Rattle.record.specs.Groups.{has, named, listed, known, within}
+use Rattle.kinds.specs.declared.layout.Row.{Row}
+use Rattle.kinds.specs.Layout.{layout, no-row}
+use Rattle.kinds.specs.Groups.{has, named, listed, known, within}
 use Rattle.record.specs.Record.{all-fit, others, all-zero, formed}
 
 -- ---- a turn of a loop: what is left from here is one row or number, and what is left from the next

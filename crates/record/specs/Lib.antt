@@ -1,10 +1,4 @@
-pub mod Layout
-pub mod Groups
-pub mod Octets
-pub mod Refusal
-pub mod Answer
 pub mod Record
 pub mod Notification
 pub mod Split
 pub mod Parts
-pub mod Feature

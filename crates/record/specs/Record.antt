@@ -8,12 +8,12 @@ use lib.Dec.{eqb, leb, ltb}
 use lib.ListN.{getD, set, replicate}
 use mir.Syntax.{w16}
 use mir.Val.{SFits}
-use Rattle.record.specs.declared.layout.Row.{Row}
+use Rattle.kinds.specs.declared.layout.Row.{Row}
 use Rattle.record.specs.declared.record.Record.{Record}
-use Rattle.record.specs.Layout as Layout
-use Rattle.record.specs.Layout.{layout, octets-of}
-use Rattle.record.specs.Groups.{named, listed, known, within}
-use Rattle.record.specs.Octets.{signed, unsigned}
+use Rattle.kinds.specs.Layout as Layout
+use Rattle.kinds.specs.Layout.{layout, octets-of}
+use Rattle.kinds.specs.Groups.{named, listed, known, within}
+use Rattle.wire.specs.Octets.{signed, unsigned}
 
 -- a record's wire numbers, one for each field, in the fields' order
 abbrev pub wire : Record → List ℕ

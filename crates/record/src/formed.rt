@@ -1,8 +1,8 @@
 // Whether a record is well formed.
-use crate::groups::has;
-use crate::groups::is_known;
-use crate::groups::listed;
-use crate::layout;
+use kinds::groups::has;
+use kinds::groups::is_known;
+use kinds::groups::listed;
+use kinds::layout;
 use crate::numbers::number_at;
 use crate::numbers::numbers_of;
 use crate::record::Record;
@@ -11,8 +11,8 @@ ghost use mathlib.Core.Bool.{cond};
 ghost use mathlib.Core.List.{[], _∷_};
 ghost use Prim.Native.Nat.{_^_, _<_};
 ghost use lib.Dec.{eqb};
-ghost use Rattle.record.specs.Layout.{layout, octets-of};
-ghost use Rattle.record.specs.Groups.{named};
+ghost use Rattle.kinds.specs.Layout.{layout, octets-of};
+ghost use Rattle.kinds.specs.Groups.{named};
 ghost use Rattle.record.specs.Record.{all-fit, others as Record·others, all-zero, formed as Record·formed, well-formed};
 
 // The least number that is too large for a width.

@@ -1,7 +1,7 @@
 // Records as wire numbers, one unsigned number for each field, and back.
-use crate::layout;
-use crate::octets::signed;
-use crate::octets::unsigned;
+use kinds::layout;
+use wire::octets::signed;
+use wire::octets::unsigned;
 use crate::record::Climb;
 use crate::record::Energy;
 use crate::record::Force;
@@ -15,7 +15,7 @@ use crate::record::Stroke;
 ghost use mathlib.Core.Path.{_≡_};
 ghost use Prim.Native.Nat.{_%_, _^_, _<_};
 ghost use lib.ListN.{getD};
-ghost use Rattle.record.specs.Octets.{signed as Octets·signed, unsigned as Octets·unsigned};
+ghost use Rattle.wire.specs.Octets.{signed as Octets·signed, unsigned as Octets·unsigned};
 ghost use Rattle.record.specs.Record.{wire, of-wire};
 
 // A field's value as a wire number: a u8, a u16, and an s16 as its sixteen bits.

@@ -5,8 +5,8 @@ use mathlib.Core.Bool.{true, false}
 use native.Mathlib.Nat.{pow-suc}
 use native.Mathlib.Omega.{arith}
 use lib.Dec.{eqb}
-use Rattle.record.specs.Groups.{has}
-use Rattle.record.proofs.Sets.{has-zero, has-half, mod-digit, eqb-false}
+use Rattle.kinds.specs.Groups.{has}
+use Rattle.kinds.proofs.Sets.{has-zero, has-half, mod-digit, eqb-false}
 use Rattle.service.specs.Collector.{lowest}
 
 -- it is the bit below which there is none

@@ -7,8 +7,8 @@ use mathlib.Core.List.{List, []}
 use native.Mathlib.Omega.{arith}
 use lib.Dec.{eqb}
 use lib.ListN.{getD}
-use Rattle.record.specs.Answer.{Answer}
-use Rattle.record.specs.Octets.{number}
+use Rattle.wire.specs.Answer.{Answer}
+use Rattle.wire.specs.Octets.{number}
 use Rattle.machine.specs.declared.machine.Machine.{Machine}
 use Rattle.machine.specs.declared.machine.Who.{Who}
 use Rattle.machine.specs.declared.machine.Who.the-variants.{Nobody, Client}

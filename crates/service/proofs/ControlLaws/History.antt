@@ -7,8 +7,8 @@ use mathlib.Core.List.{List, [], _∷_, _++_}
 use native.Mathlib.Omega.{arith}
 use lib.Dec.{eqb}
 use lib.ListN.{getD}
-use Rattle.record.specs.declared.feature.Feature.{Feature}
-use Rattle.record.specs.Answer.{Answer, refused, given}
+use Rattle.wire.specs.declared.feature.Feature.{Feature}
+use Rattle.wire.specs.Answer.{Answer, refused, given}
 use Rattle.machine.specs.declared.ranges.Ranges.{Ranges}
 use Rattle.machine.specs.declared.machine.Machine.{Machine}
 use Rattle.machine.specs.declared.machine.Who.{Who}

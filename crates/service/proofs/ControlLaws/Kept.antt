@@ -7,10 +7,10 @@ use native.Mathlib.Omega.{arith}
 use lib.Dec.{eqb}
 use lib.ListN.{length, getD, set, length-set}
 use lib.Seq.{getD-set-same, getD-set-other, length-sets}
-use Rattle.record.specs.declared.feature.Feature.{Feature}
-use Rattle.record.specs.Feature.{feature-of}
-use Rattle.record.specs.Answer.{Answer, refused, given}
-use Rattle.record.specs.Octets.{number, placed}
+use Rattle.wire.specs.declared.feature.Feature.{Feature}
+use Rattle.wire.specs.Feature.{feature-of}
+use Rattle.wire.specs.Answer.{Answer, refused, given}
+use Rattle.wire.specs.Octets.{number, placed}
 use Rattle.machine.specs.declared.ranges.Ranges.{Ranges}
 use Rattle.machine.specs.declared.machine.Machine.{Machine}
 use Rattle.machine.specs.declared.machine.Who.{Who}

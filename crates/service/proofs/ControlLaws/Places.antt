@@ -8,7 +8,7 @@ use native.Mathlib.Omega.{arith}
 use lib.Dec.{eqb, leb, leb→le}
 use lib.ListN.{length, take, drop, set, replicate}
 use lib.Seq.{sets-eq, take-at, drop-at, length-take-le, take-set-le, drop-set-lt, drop-set-add}
-use Rattle.record.specs.Octets.{placed}
+use Rattle.wire.specs.Octets.{placed}
 use Rattle.machine.specs.declared.machine.Machine.{Machine}
 use Rattle.machine.specs.declared.op_codes.Act.{Act}
 use Rattle.machine.specs.declared.op_codes.Act.the-variants.{TakesControl, Resets, Starts, Halts, Stores, Nothing}

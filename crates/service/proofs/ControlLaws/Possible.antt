@@ -7,11 +7,11 @@ use native.Mathlib.Omega.{arith}
 use lib.Dec.{eqb, lit≤}
 use denote.Ref.{RefT}
 use lib.ListN.{length, getD, List·getD-map}
-use Rattle.record.specs.Answer.{Answer, refused}
-use Rattle.record.specs.declared.refusal.Refusal.{Refusal}
-use Rattle.record.specs.declared.refusal.Refusal.the-variants.{ClientAboveThree, UnknownKind, PayloadOutOfRange, NotWellFormed, OutputTooShort, NoSuchPart, RangeReversed, NotConnected, EmptyWrite, IndicationsOff, ResponseAwaited, NothingDue, NotEightOctets}
-use Rattle.record.specs.Refusal.{number-of}
-use Rattle.record.specs.Feature.{named, words}
+use Rattle.wire.specs.Answer.{Answer, refused}
+use Rattle.wire.specs.declared.refusal.Refusal.{Refusal}
+use Rattle.wire.specs.declared.refusal.Refusal.the-variants.{ClientAboveThree, UnknownKind, PayloadOutOfRange, NotWellFormed, OutputTooShort, NoSuchPart, RangeReversed, NotConnected, EmptyWrite, IndicationsOff, ResponseAwaited, NothingDue, NotEightOctets}
+use Rattle.wire.specs.Refusal.{number-of}
+use Rattle.wire.specs.Feature.{named, words}
 use Rattle.machine.specs.declared.ranges.Ranges.{Ranges}
 use Rattle.machine.specs.declared.machine.Machine.{Machine}
 use Rattle.service.specs.declared.control.Outcome.the-variants.{Done, Refused}

@@ -6,8 +6,8 @@ use mathlib.Core.List.{List, [], _∷_, _++_}
 use native.Mathlib.Omega.{arith}
 use lib.Dec.{eqb, ltb, lit≤, eqb·suc-zero}
 use lib.ListN.{length, set}
-use Rattle.record.specs.Answer.{Answer}
-use Rattle.record.specs.Octets.{number}
+use Rattle.wire.specs.Answer.{Answer}
+use Rattle.wire.specs.Octets.{number}
 use Rattle.machine.specs.declared.machine.Machine.{Machine}
 use Rattle.machine.specs.declared.machine.Who.the-variants.{Nobody, Client}
 use Rattle.machine.specs.OpCodes.{row}

@@ -5,7 +5,7 @@ use mathlib.Core.Path.{_≡_, refl}
 use native.Mathlib.Omega.{arith}
 use borrow.Author.Needs.{needs}
 use lib.ListN.{length, take}
-use Rattle.record.specs.Layout.{layout, no-row}
+use Rattle.kinds.specs.Layout.{layout, no-row}
 use Rattle.listing.specs.Lines.{field-lines}
 use Rattle.text.specs.Text.{Wrote}
 use Rattle.text.proofs.Writing.{nothing}

@@ -4,10 +4,10 @@ use mathlib.Core.Path.{_≡_, refl, sym, _∙_}
 use borrow.Author.Needs.{needs}
 use borrow.Author.Tests.{not-true, not-false}
 use lib.ListN.{length, drop}
-use Rattle.record.specs.Layout.{layout}
-use Rattle.record.specs.Groups.{named}
+use Rattle.kinds.specs.Layout.{layout}
+use Rattle.kinds.specs.Groups.{named}
 use Rattle.record.specs.Record.{all-fit}
-use Rattle.record.proofs.Tables.{field-below}
+use Rattle.kinds.proofs.Tables.{field-below}
 use Rattle.record.proofs.Turns.{fit-turn, fit-end}
 use Rattle.record.proofs.formed.all_fits.Statement.{statement}
 use Rattle.record.proofs.formed.all_fits.Tie as tie

@@ -1,7 +1,7 @@
 -- `clear_row` meets its contract: by whether the row's group is in the set. Assumes nothing.
 use borrow.Author.Needs.{needs}
 use mathlib.Core.Path.{sym, _∙_}
-use Rattle.record.specs.Groups.{named}
+use Rattle.kinds.specs.Groups.{named}
 use Rattle.record.specs.Record.{others}
 use Rattle.record.proofs.formed.clear_row.Statement.{statement}
 use Rattle.record.proofs.formed.clear_row.Tie as tie

@@ -7,9 +7,9 @@ use borrow.Author.Needs.{needs}
 use borrow.Author.Tests.{not-true, not-false, eq-eqb, ne-eqb, le-leb, lt-leb}
 use lib.Bits.{bitAnd, and-le-r}
 use lib.Dec.{eqb, leb}
-use Rattle.record.specs.Groups.{known, listed, within}
+use Rattle.kinds.specs.Groups.{known, listed, within}
 use Rattle.record.specs.Record.{all-zero}
-use Rattle.record.proofs.Tables.{listed-below}
+use Rattle.kinds.proofs.Tables.{listed-below}
 use Rattle.record.proofs.Turns.{tests}
 use Rattle.record.proofs.formed.formed.Statement.{statement}
 use Rattle.record.proofs.formed.formed.Tie as tie

@@ -3,10 +3,10 @@ use Prim.Native.Nat.{_≤_, _-_}
 use mathlib.Core.Path.{_≡_, refl, sym, _∙_}
 use borrow.Author.Needs.{needs}
 use lib.ListN.{length, drop}
-use Rattle.record.specs.Layout.{layout}
-use Rattle.record.specs.Groups.{named}
+use Rattle.kinds.specs.Layout.{layout}
+use Rattle.kinds.specs.Groups.{named}
 use Rattle.record.specs.Record.{others}
-use Rattle.record.proofs.Tables.{field-below}
+use Rattle.kinds.proofs.Tables.{field-below}
 use Rattle.record.proofs.Turns.{others-turn, others-end}
 use Rattle.record.proofs.formed.others.Statement.{statement}
 use Rattle.record.proofs.formed.others.Tie as tie

@@ -2,7 +2,7 @@
 use borrow.Author.Needs.{needs}
 use mathlib.Core.Path.{sym, _∙_}
 use mathlib.Core.Bool.{and-true}
-use Rattle.record.specs.Groups.{named}
+use Rattle.kinds.specs.Groups.{named}
 use Rattle.record.specs.Record.{all-fit}
 use Rattle.record.proofs.formed.row_fits.Statement.{statement}
 use Rattle.record.proofs.formed.row_fits.Tie as tie

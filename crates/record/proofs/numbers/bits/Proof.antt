@@ -3,7 +3,7 @@ use mathlib.Core.Path.{ap, _∙_}
 use borrow.Author.Needs.{needs}
 use mir.Syntax.{w16}
 use mir.Facts.{toZ-ofZ}
-use Rattle.record.specs.Octets.{unsigned}
+use Rattle.wire.specs.Octets.{unsigned}
 use Rattle.record.proofs.numbers.bits.Statement.{statement}
 use Rattle.record.proofs.numbers.bits.Tie as tie
 

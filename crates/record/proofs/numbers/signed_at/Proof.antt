@@ -1,7 +1,7 @@
 -- `signed_at` meets its contract. Assumes nothing.
 use mathlib.Core.Path.{ap, _∙_}
 use borrow.Author.Needs.{needs}
-use Rattle.record.specs.Octets.{signed}
+use Rattle.wire.specs.Octets.{signed}
 use Rattle.record.proofs.Records.{through}
 use Rattle.record.proofs.numbers.signed_at.Statement.{statement}
 use Rattle.record.proofs.numbers.signed_at.Tie as tie

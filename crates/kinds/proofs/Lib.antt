@@ -1,0 +1,5 @@
+pub mod Arms
+pub mod Sets
+pub mod Rows
+pub mod Tables
+pub mod Once

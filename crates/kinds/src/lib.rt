@@ -1,0 +1,3 @@
+// The tables of the kinds.
+pub mod groups;
+pub mod layout;

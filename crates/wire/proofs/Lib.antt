@@ -1,0 +1,4 @@
+pub mod OctetLaws
+pub mod RefusalLaws
+pub mod FeatureLaws
+pub mod Once

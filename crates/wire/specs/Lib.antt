@@ -1,0 +1,4 @@
+pub mod Octets
+pub mod Refusal
+pub mod Answer
+pub mod Feature
