@@ -9,11 +9,11 @@ use output::first;
 use output::print;
 use output::print_octets;
 use record::octets::u8_at;
-use service::control::confirm;
-use service::control::connect;
-use service::control::indicate;
-use service::control::open;
-use service::control::write;
+use console::control::confirm;
+use console::control::connect;
+use console::control::indicate;
+use console::control::open;
+use console::control::write;
 
 // Every named bit of the features and of the target settings.
 const FEATURE: [u8; 8] = [0xFF, 0xFF, 0x01, 0x00, 0xFF, 0xFF, 0x01, 0x00];

@@ -11,9 +11,9 @@ use Rattle.kinds.specs.Groups.{has, named, size, groups-of, known, listed, flag
 use Rattle.wire.specs.Octets.{spelled, number}
 use Rattle.record.specs.Split.{longest, cut, written, octets, sets-of, payload-known, split-wire, split-of}
 use Rattle.demands.specs.Cases.{parts, calls, Holds, cases, Every}
-use Rattle.service.specs.Control.Cases as Control
-use Rattle.service.specs.Control.Replies.{Reply}
-use Rattle.service.proofs.ControlLaws.Cases as AllControl
+use Rattle.console.specs.Control.Cases as Control
+use Rattle.console.specs.Control.Replies.{Reply}
+use Rattle.console.proofs.ControlLaws.Cases as AllControl
 
 -- a row of the table, by the sets of the parts: they are computed once
 row : (kind groups p direction : ℕ) (sets lengths : List ℕ) (flags : List (List ℕ)) → listed kind ≡ groups → sets-of kind groups p ≡ sets →

@@ -10,7 +10,7 @@ use Rattle.kinds.specs.Groups.{known, listed, flags-octets}
 use Rattle.wire.specs.Octets.{number, signed}
 use Rattle.wire.specs.Answer.{refused}
 use Rattle.record.specs.Split.{sets-of, octets, split-of}
-use Rattle.service.specs.Control.Cases as Control
+use Rattle.console.specs.Control.Cases as Control
 
 pub data Case : Type 0 where
   -- "All groups present": kind, its groups, payload and direction; the parts' lengths and flags

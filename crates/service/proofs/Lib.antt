@@ -1,4 +1,3 @@
 pub mod Lowest
 pub mod Joining
 pub mod CollectorOnce
-pub mod ControlLaws

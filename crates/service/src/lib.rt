@@ -1,3 +1,2 @@
 // The service layer, above the record layer and on its promise alone.
 pub mod collector;
-pub mod control;

@@ -1,0 +1,2 @@
+// The console: the control point, for up to four clients.
+pub mod control;
