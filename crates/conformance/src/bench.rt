@@ -1,10 +1,10 @@
 // A machine under test, and a client, number 0, that writes to it and confirms each response.
 use machine::machine::Machine;
 use machine::octets::Octets;
-use machine::ranges::HeartRateRange;
-use machine::ranges::Ranges;
-use machine::ranges::SignedRange;
-use machine::ranges::SpeedRange;
+use codes::ranges::HeartRateRange;
+use codes::ranges::Ranges;
+use codes::ranges::SignedRange;
+use codes::ranges::SpeedRange;
 use output::first;
 use output::print;
 use output::print_octets;

@@ -14,7 +14,7 @@ use Rattle.record.specs.declared.record.Record.{Record}
 use Rattle.record.specs.declared.split.SplitAnswer.{SplitAnswer}
 use Rattle.wire.specs.Answer.{given}
 use Rattle.record.specs.Split.{meant}
-use Rattle.kinds.proofs.Sets.{eqb-true}
+use Rattle.kinds.proofs.Tests.{eqb-true}
 use Rattle.record.proofs.split.split.Kinds as kinds
 use Rattle.record.proofs.split.split.Reads as split
 use Rattle.service.proofs.collector.collect.Kinds as collect-kinds

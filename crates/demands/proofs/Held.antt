@@ -16,7 +16,8 @@ use Rattle.record.specs.Split.{cut, sets-of}
 use Rattle.service.specs.declared.collector.Told.{Told}
 use Rattle.service.specs.declared.collector.Told.the-variants.{Fixed}
 use Rattle.service.specs.Collector.{waiting, handed, zeros, refuses, incomplete, collect}
-use Rattle.kinds.proofs.Sets.{Sub, sub-trans, sub-high, eqb-true, eqb-false}
+use Rattle.kinds.proofs.Sets.{Sub, sub-trans, sub-high}
+use Rattle.kinds.proofs.Tests.{eqb-true, eqb-false}
 use Rattle.kinds.proofs.Rows.{named-empty}
 use Rattle.kinds.proofs.Tables.{flags-most}
 use Rattle.record.proofs.Kept.{kept-or}

@@ -19,7 +19,7 @@ use Rattle.record.specs.Split.{payload-known, set-at, sets-of, part-octets, ext
 use Rattle.service.specs.declared.collector.Collection.{Collection}
 use Rattle.service.specs.declared.collector.Told.{Told}
 use Rattle.service.specs.Collector.{Said, collect, empty}
-use Rattle.kinds.proofs.Sets.{and-l, and-r}
+use Rattle.kinds.proofs.Tests.{and-l, and-r}
 use Rattle.record.proofs.Parts.{octets-length}
 use Rattle.record.proofs.Again.{front, facts, record-parts}
 use Rattle.demands.specs.Behaviour.{Splitter, Collector, buffer, length-of, parts-of, each, piece, pieces, SplitsAsPromised, CollectsAsPromised, collector-of}

@@ -1,3 +1,4 @@
+pub mod Tests
 pub mod Arms
 pub mod Sets
 pub mod Rows

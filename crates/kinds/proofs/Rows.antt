@@ -8,7 +8,8 @@ use lib.Dec.{ltb, eqb}
 use lib.Pow.{pow-pos}
 use Rattle.kinds.specs.declared.layout.Row.{Row}
 use Rattle.kinds.specs.Groups.{has, named, size, groups-of}
-use Rattle.kinds.proofs.Sets.{passed, failed, tested, eqb-eq, eqb-ne, and-l, and-r, leb-le, has-empty, has-power, has-own, has-low, has-high, same-bit, add-bit}
+use Rattle.kinds.proofs.Sets.{has-empty, has-power, has-own, has-low, has-high, same-bit, add-bit}
+use Rattle.kinds.proofs.Tests.{passed, failed, tested, eqb-eq, eqb-ne, and-l, and-r, leb-le}
 
 -- the bits of all rows are below a number
 abbrev pub below : ℕ → List Row → Bool

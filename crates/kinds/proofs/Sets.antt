@@ -1,63 +1,15 @@
 -- Sets of groups as numbers: what `has` says of the bit operations, and of halves and remainders.
 use Prim.Native.Nat.{ℕ, zero, suc, _+_, _-_, _*_, _/_, _%_, _^_, _<_, _≤_, min, max, suc-le-suc}
 use mathlib.Core.Path.{_≡_, refl, sym, ap, _∙_}
-use mathlib.Core.Bool.{Bool, true, false, _&&_, _||_, true≢false}
+use mathlib.Core.Bool.{Bool, true, false, _&&_, _||_}
 use native.Mathlib.Omega.{arith}
 use native.Mathlib.Nat.{mod-eq-of-lt, one-mul, div-eq-of-lt, div-self, le-trans, mul-mod-left, suc-mul, add-comm, mod-lt, zero-lt-suc, pow-suc, div-one, zero-div, div-div-eq-div-mul, mul-comm}
-use lib.Dec.{T, eqb, leb, ltb, eqb→eq, eqb-refl, leb→le, le→leb, nleb→lt}
+use lib.Dec.{eqb, leb}
 use lib.Bits.{bitAnd, bitOr, and-step, or-step, and-shr, or-shr, or-shifted, and-zero-l}
 use lib.Pow.{pow-pos, pow-mono, pow-lt, pow-add, split, shr-lt, field, mod-mod-pow, mod-pow-add}
 use lib.Arith.{bin-ind, mod-mul, digits-lt}
 use Rattle.kinds.specs.Groups.{has}
-
--- ---- tests
-
-pub test-true : (b : Bool) → T b → b ≡ true
-test-true true t = refl
-test-true false t = absurd t
-
-pub test-false : (b : Bool) → (T b → ⊥) → b ≡ false
-test-false true n = absurd (n tt)
-test-false false n = refl
-
-pub test-holds : {b : Bool} → b ≡ true → T b
-test-holds e = rw e tt
-
-pub leb-true : {m n : ℕ} → m ≤ n → leb m n ≡ true
-leb-true {m} {n} h = test-true (leb m n) (le→leb m n h)
-
-pub leb-false : {m n : ℕ} → n < m → leb m n ≡ false
-leb-false {m} {n} h = test-false (leb m n) λ t. let k : m ≤ n = leb→le m n t in omega arith
-
-pub ltb-false : (m n : ℕ) → n ≤ m → ltb m n ≡ false
-ltb-false m n h = leb-false (suc-le-suc h)
-
-pub leb-le : (m n : ℕ) → leb m n ≡ true → m ≤ n
-leb-le m n e = leb→le m n (test-holds e)
-
-pub leb-lt : (m n : ℕ) → leb m n ≡ false → n < m
-leb-lt m n e = nleb→lt m n (rw e tt)
-
-pub eqb-true : {m n : ℕ} → m ≡ n → eqb m n ≡ true
-eqb-true {m} {n} h = rw h (test-true (eqb n n) (eqb-refl n))
-
-pub eqb-false : {m n : ℕ} → (m ≡ n → ⊥) → eqb m n ≡ false
-eqb-false {m} {n} h = test-false (eqb m n) λ t. h (eqb→eq m n t)
-
-pub eqb-eq : (m n : ℕ) → eqb m n ≡ true → m ≡ n
-eqb-eq m n e = eqb→eq m n (test-holds e)
-
-pub eqb-ne : (m n : ℕ) → eqb m n ≡ false → m ≡ n → ⊥
-eqb-ne m n e h = true≢false (sym (eqb-true h) ∙ e)
-
--- a test passes or fails
-pub data Tested (b : Bool) : Type 0 where
-  passed : b ≡ true → Tested b
-  failed : b ≡ false → Tested b
-
-pub tested : (b : Bool) → Tested b
-tested true = passed refl
-tested false = failed refl
+use Rattle.kinds.proofs.Tests.{leb-le, leb-lt, eqb-eq, eqb-ne, passed, failed, tested}
 
 -- ---- membership
 
@@ -205,14 +157,6 @@ unfolding has
 has-above a i h = rw (div-eq-of-lt h)
 
 -- ---- tests joined
-
-pub and-l : (x y : Bool) → (x && y) ≡ true → x ≡ true
-and-l true y e = refl
-and-l false y e = e
-
-pub and-r : (x y : Bool) → (x && y) ≡ true → y ≡ true
-and-r true y e = e
-and-r false y e = absurd (true≢false (sym e))
 
 -- ---- bits of a set below a bit
 

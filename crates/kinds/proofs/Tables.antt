@@ -13,24 +13,8 @@ use Rattle.kinds.specs.declared.layout.Width.{Width}
 use Rattle.kinds.specs.declared.layout.Width.the-variants.{U8, U16, U24, S16}
 use Rattle.kinds.specs.Layout.{octets-of, no-row, tables, layout, treadmill, cross-trainer, step-climber, stair-climber, rower, indoor-bike}
 use Rattle.kinds.specs.Groups.{has, named, size, groups-of, listed, flags-octets, set-length}
-use Rattle.kinds.proofs.Sets.{passed, failed, tested, eqb-eq, eqb-ne, leb-le, and-l, and-r}
+use Rattle.kinds.proofs.Tests.{passed, failed, tested, eqb-eq, eqb-ne, leb-le, and-l, and-r, all, all-at, all-in}
 use Rattle.kinds.proofs.Rows.{below, groups-below, named-low, named-empty, size-named, size-next}
-
--- a test holds of all the elements of a list
-abbrev pub all : {A : Type 0} → (A → Bool) → List A → Bool
-all p [] = true
-all p (x ∷ l) = p x && all p l
-
--- then of the one at a place, and past the end if it holds of the default
-pub all-at : {A : Type 0} (p : A → Bool) (l : List A) (d : A) → all p l ≡ true → p d ≡ true → (i : ℕ) → p (getD l i d) ≡ true
-all-at p [] d e f i = f
-all-at p (x ∷ l) d e f zero = and-l (p x) (all p l) e
-all-at p (x ∷ l) d e f (suc i) = all-at p l d (and-r (p x) (all p l) e) f i
-
-pub all-in : {A : Type 0} (p : A → Bool) (l : List A) (d : A) → all p l ≡ true → (i : ℕ) → i < length l → p (getD l i d) ≡ true
-all-in p [] d e i h = absurd (omega arith)
-all-in p (x ∷ l) d e zero h = and-l (p x) (all p l) e
-all-in p (x ∷ l) d e (suc i) h = all-in p l d (and-r (p x) (all p l) e) i (omega arith)
 
 -- ---- of every number, kind or not
 

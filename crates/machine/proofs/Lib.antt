@@ -1,5 +1,4 @@
-pub mod Tests
-pub mod Rule
+pub mod Fits
 pub mod Boxes
 pub mod Results
 pub mod Once

@@ -11,14 +11,12 @@ use Rattle.machine.proofs.machine.nothing.Reads as nothing
 use Rattle.machine.proofs.machine.linked.Reads as linked
 use Rattle.machine.proofs.machine.awaiting.Reads as awaiting
 use Rattle.machine.proofs.octets.none.Reads as none
-use Rattle.machine.proofs.op_codes.row_of.Reads as row-of
-use Rattle.machine.proofs.ranges.in_order.Reads as in-order
 
 pub writes-once : Once perform.Post × Once first-result.Post × Once setting.Post
 writes-once = (λ κs a x y s t. same, λ κs a x y s t. same, λ κs a x y s t. same)
 
-pub tables-once : Once row-of.Post × Once in-order.Post × Once none.Post
-tables-once = (λ κs a x y s t. same, λ κs a x y s t. same, λ κs a x y s t. same)
+pub octets-once : Once none.Post
+octets-once κs a x y s t = same
 
 pub clients-once : Once is-client.Post × Once someone.Post × Once without.Post
 clients-once = (λ κs a x y s t. same, λ κs a x y s t. same, λ κs a x y s t. same)

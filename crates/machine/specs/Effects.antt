@@ -10,10 +10,10 @@ use Rattle.machine.specs.declared.machine.Machine.{Machine}
 use Rattle.machine.specs.declared.machine.Mode.{Mode}
 use Rattle.machine.specs.declared.machine.Mode.the-variants.{Stopped, Running, Paused}
 use Rattle.machine.specs.declared.machine.Who.the-variants.{Client}
-use Rattle.machine.specs.declared.op_codes.Act.{Act}
-use Rattle.machine.specs.declared.op_codes.Act.the-variants.{TakesControl, Resets, Starts, Halts, Stores, Nothing}
+use Rattle.codes.specs.declared.op_codes.Act.{Act}
+use Rattle.codes.specs.declared.op_codes.Act.the-variants.{TakesControl, Resets, Starts, Halts, Stores, Nothing}
 use Rattle.machine.specs.declared.effects.Performed.{Performed}
-use Rattle.machine.specs.OpCodes.{row, size}
+use Rattle.codes.specs.OpCodes.{row, size}
 use Rattle.machine.specs.Octets.{boxed}
 use Rattle.machine.specs.Judging.{result}
 use Rattle.machine.specs.Machine.{held-by, going, storing, cleared}

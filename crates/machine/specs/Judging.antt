@@ -8,17 +8,17 @@ use lib.ListN.{length}
 use Rattle.wire.specs.declared.feature.Feature.{Feature}
 use Rattle.wire.specs.Feature.{has-named}
 use Rattle.wire.specs.Octets.{number}
-use Rattle.machine.specs.declared.ranges.Ranges.{Ranges}
+use Rattle.codes.specs.declared.ranges.Ranges.{Ranges}
 use Rattle.machine.specs.declared.machine.Machine.{Machine}
 use Rattle.machine.specs.declared.machine.Mode.{Mode}
 use Rattle.machine.specs.declared.machine.Mode.the-variants.{Stopped, Running, Paused}
 use Rattle.machine.specs.declared.machine.Who.{Who}
-use Rattle.machine.specs.declared.op_codes.Need.{Need}
-use Rattle.machine.specs.declared.op_codes.Need.the-variants.{Always, Never, Bit}
-use Rattle.machine.specs.declared.op_codes.Act.{Act}
-use Rattle.machine.specs.declared.op_codes.Act.the-variants.{TakesControl, Resets, Starts, Halts, Stores, Nothing}
-use Rattle.machine.specs.Ranges.{allowed}
-use Rattle.machine.specs.OpCodes.{OpCode, size}
+use Rattle.codes.specs.declared.op_codes.Need.{Need}
+use Rattle.codes.specs.declared.op_codes.Need.the-variants.{Always, Never, Bit}
+use Rattle.codes.specs.declared.op_codes.Act.{Act}
+use Rattle.codes.specs.declared.op_codes.Act.the-variants.{TakesControl, Resets, Starts, Halts, Stores, Nothing}
+use Rattle.codes.specs.Ranges.{allowed}
+use Rattle.codes.specs.OpCodes.{OpCode, size}
 use Rattle.machine.specs.Machine.{is, someone, without}
 
 -- "00, 01, 07, 08 are always supported; 02 to 06 need target bits 0 to 4, 09 to 12 need 5 to 14, 14 needs 16."

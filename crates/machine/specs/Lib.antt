@@ -1,5 +1,3 @@
-pub mod Ranges
-pub mod OpCodes
 pub mod Octets
 pub mod Machine
 pub mod Judging

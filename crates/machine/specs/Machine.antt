@@ -6,7 +6,7 @@ use lib.Dec.{eqb}
 use lib.IntN.{pos}
 use lib.ListN.{getD, replicate}
 use Rattle.wire.specs.declared.feature.Feature.{Feature}
-use Rattle.machine.specs.declared.ranges.Ranges.{Ranges}
+use Rattle.codes.specs.declared.ranges.Ranges.{Ranges}
 use Rattle.machine.specs.declared.machine.Machine.{Machine}
 use Rattle.machine.specs.declared.machine.Mode.{Mode}
 use Rattle.machine.specs.declared.machine.Mode.the-variants.{Stopped}

@@ -5,15 +5,15 @@ use crate::machine::Who;
 use crate::machine::is_client;
 use crate::machine::someone;
 use crate::machine::without;
-use crate::op_codes::Act;
-use crate::op_codes::Need;
-use crate::op_codes::row_of;
-use crate::ranges::Ranges;
-use crate::ranges::allowed;
+use codes::op_codes::Act;
+use codes::op_codes::Need;
+use codes::op_codes::row_of;
+use codes::ranges::Ranges;
+use codes::ranges::allowed;
 use wire::feature::Feature;
 use wire::octets::u8_at;
 ghost use mathlib.Core.Path.{_≡_};
-ghost use Rattle.machine.specs.OpCodes.{row};
+ghost use Rattle.codes.specs.OpCodes.{row};
 ghost use Rattle.machine.specs.Judging.{supports as Judging·supports, takes, controls as Judging·controls, halts as Judging·halts, known-halt, fit as Judging·fit, no-halt, runs, fails as Judging·fails, first-of, result};
 
 // Whether the machine has the target setting that an op code needs.

@@ -19,8 +19,8 @@ use Rattle.record.specs.Record.{all-fit, others, all-zero, formed}
 use Rattle.record.specs.Split.{payload-known, split-wire, extent-of}
 use Rattle.wire.proofs.OctetLaws.{number-below}
 use Rattle.wire.proofs.Once.{value-same, never}
-use Rattle.kinds.proofs.Sets.{and-l, and-r, eqb-true, eqb-eq, eqb-ne, leb-true, lowest-and, has-and, has-half, has-zero, Sub, and-of-sub}
-use Rattle.kinds.proofs.Tables.{all, all-at}
+use Rattle.kinds.proofs.Sets.{lowest-and, has-and, has-half, has-zero, Sub, and-of-sub}
+use Rattle.kinds.proofs.Tests.{and-l, and-r, eqb-true, eqb-eq, eqb-ne, leb-true, all, all-at}
 use Rattle.record.proofs.Turns.{tests}
 use Rattle.record.proofs.Parts.{listed-even}
 use Rattle.service.specs.Collector.{zeros}

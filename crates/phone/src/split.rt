@@ -8,7 +8,6 @@ use record::split::SplitAnswer;
 use record::split::is_payload;
 use record::split::split_numbers;
 ghost use mathlib.Core.Path.{_≡_};
-ghost use mathlib.Core.Bool.{true};
 ghost use lib.ListN.{length};
 ghost use Rattle.wire.specs.Answer.{after, provided};
 ghost use Rattle.wire.specs.Octets.{over};

@@ -19,7 +19,8 @@ use Rattle.record.specs.Record.{wire, well-formed, kept, Formed}
 use Rattle.record.specs.Notification.{part-of, joined, held-after}
 use Rattle.record.specs.Split.{payload-known, sets-of, set-at, part-octets}
 use Rattle.record.specs.Parts.{PartsOf}
-use Rattle.kinds.proofs.Sets.{Sub, and-l, and-r, has-zero}
+use Rattle.kinds.proofs.Sets.{Sub, has-zero}
+use Rattle.kinds.proofs.Tests.{and-l, and-r}
 use Rattle.record.proofs.Records.{formed-facts}
 use Rattle.record.proofs.Parts.{part-again, values-again}
 use Rattle.record.proofs.Partition.{parts-of}

@@ -8,7 +8,8 @@ use lib.Dec.{leb, eqb}
 use lib.Pow.{pow-pos, pow-add, split, shl-shr, mod-pow-add, mod-mod-pow}
 use Rattle.kinds.specs.Groups.{set-length}
 use Rattle.record.specs.Split.{fits, longest, cut}
-use Rattle.kinds.proofs.Sets.{passed, failed, tested, leb-le, leb-lt, eqb-eq, eqb-ne, low-bit}
+use Rattle.kinds.proofs.Sets.{low-bit}
+use Rattle.kinds.proofs.Tests.{passed, failed, tested, leb-le, leb-lt, eqb-eq, eqb-ne}
 use Rattle.kinds.proofs.Tables.{Sound}
 use Rattle.record.proofs.Runs.{longest-fits, longest-le, longest-ge}
 

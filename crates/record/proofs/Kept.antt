@@ -16,7 +16,8 @@ use Rattle.record.specs.Record.{all-fit, kept}
 use Rattle.record.specs.Notification.{read-into}
 use Rattle.record.specs.Split.{written}
 use Rattle.wire.proofs.OctetLaws.{length-spelled, number-spelled}
-use Rattle.kinds.proofs.Sets.{Sub, has-or, passed, failed, tested, eqb-eq, eqb-ne, and-l, and-r}
+use Rattle.kinds.proofs.Sets.{Sub, has-or}
+use Rattle.kinds.proofs.Tests.{passed, failed, tested, eqb-eq, eqb-ne, and-l, and-r}
 
 -- what is written is read back, whatever follows it
 pub read-written : (rows : List Row) (v rest z : List ℕ) → all-fit rows v ≡ true → read-into rows (written rows v ++ rest) z ≡ kept rows v z

@@ -14,7 +14,8 @@ use Rattle.kinds.specs.Groups.{has, set-length, flags-octets, optional}
 use Rattle.record.specs.Parts.{PartsOf}
 use Rattle.record.specs.Record.{Formed}
 use Rattle.record.specs.Split.{sets-of, cut}
-use Rattle.kinds.proofs.Sets.{Sub, sub-trans, sub-same, sub-low, sub-high, has-or, has-zero, has-above, has-low, has-empty, passed, failed, tested, leb-le, leb-lt, eqb-true, eqb-false}
+use Rattle.kinds.proofs.Sets.{Sub, sub-trans, sub-same, sub-low, sub-high, has-or, has-zero, has-above, has-low, has-empty}
+use Rattle.kinds.proofs.Tests.{passed, failed, tested, leb-le, leb-lt, eqb-true, eqb-false}
 use Rattle.kinds.proofs.Tables.{flags-most}
 use Rattle.record.proofs.Cuts.{Cuts, whole, more, cuts, low-part, high-part, both-parts, mod-multiple}
 use Rattle.record.proofs.Parts.{with-main, sub-main, sub-suc, the-sound, groups-even, groups-low}

@@ -19,7 +19,8 @@ use Rattle.record.specs.Record.{Formed, kept}
 use Rattle.record.specs.Notification.{flags-of, names, heading, part-of, read-into, values, joined}
 use Rattle.record.specs.Split.{written, flags, octets}
 use Rattle.wire.proofs.OctetLaws.{length-spelled, number-spelled}
-use Rattle.kinds.proofs.Sets.{Sub, sub-of-and, sub-or, sub-or-l, sub-or-r, sub-same, sub-trans, and-of-sub, lowest-and, digit-lt, passed, failed, tested, eqb-eq, eqb-ne}
+use Rattle.kinds.proofs.Sets.{Sub, sub-of-and, sub-or, sub-or-l, sub-or-r, sub-same, sub-trans, and-of-sub, lowest-and, digit-lt}
+use Rattle.kinds.proofs.Tests.{passed, failed, tested, eqb-eq, eqb-ne}
 use Rattle.kinds.proofs.Tables.{Sound, sound, flags-least, listed-below}
 use Rattle.record.proofs.Writing.{length-written}
 use Rattle.record.proofs.Kept.{read-written, fit-sub}

@@ -22,8 +22,7 @@ use Rattle.kinds.specs.Layout.{layout, octets-of, tables, treadmill, cross-trai
 use Rattle.kinds.specs.Groups.{has, named, listed, known, within}
 use Rattle.wire.specs.Octets.{signed, unsigned}
 use Rattle.record.specs.Record.{wire, of-wire, all-fit, others, all-zero, formed, kept, Formed, type-bits, bits-within, in-types, Typed}
-use Rattle.kinds.proofs.Sets.{passed, failed, tested, eqb-eq, eqb-ne, and-l, and-r}
-use Rattle.kinds.proofs.Tables.{all, all-at}
+use Rattle.kinds.proofs.Tests.{passed, failed, tested, eqb-eq, eqb-ne, and-l, and-r, all, all-at}
 use Rattle.record.proofs.Turns.{tests}
 
 -- ---- signed numbers that went through their bits

@@ -6,7 +6,7 @@ use native.Mathlib.Omega.{arith}
 use lib.Dec.{leb, eqb}
 use Rattle.kinds.specs.Groups.{set-length}
 use Rattle.record.specs.Split.{fits, longest, run}
-use Rattle.kinds.proofs.Sets.{passed, failed, tested, leb-le, leb-lt, eqb-eq, eqb-ne}
+use Rattle.kinds.proofs.Tests.{passed, failed, tested, leb-le, leb-lt, eqb-eq, eqb-ne}
 use Rattle.kinds.proofs.Tables.{length-mono, length-none}
 
 module _ (kind set room : ℕ) where

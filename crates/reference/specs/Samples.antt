@@ -1,7 +1,7 @@
 -- Lines of the tables, by computation: document 01's order, widths and units, and the lengths of its own numbers.
 use mathlib.Core.Path.{_≡_, refl}
 use lib.ListN.{getD}
-use Rattle.kinds.specs.Layout.{layout, no-row, tables, treadmill, cross-trainer, step-climber, stair-climber, rower, indoor-bike}
+use Rattle.kinds.specs.Layout.{layout, no-row, tables, treadmill, cross-trainer, step-climber, indoor-bike}
 use Rattle.kinds.specs.Groups.{has, named, size, groups-of, listed}
 use Rattle.text.specs.Names.{names, name, bare}
 use Rattle.text.specs.Text.{ascii, decimal}

@@ -8,18 +8,18 @@ use lib.Dec.{eqb, ltb, ltb→lt, eqb·suc-zero}
 use lib.ListN.{length, getD, set, length-set, List·getD-eq-default}
 use lib.Seq.{getD-set-same}
 use Rattle.wire.specs.Answer.{given}
-use Rattle.machine.specs.declared.ranges.Ranges.{Ranges}
+use Rattle.codes.specs.declared.ranges.Ranges.{Ranges}
 use Rattle.machine.specs.declared.machine.Machine.{Machine}
 use Rattle.machine.specs.declared.machine.Who.{Who}
 use Rattle.machine.specs.declared.machine.Who.the-variants.{Nobody, Client}
-use Rattle.machine.specs.OpCodes.{row}
+use Rattle.codes.specs.OpCodes.{row}
 use Rattle.machine.specs.Machine.{is, someone, without, is-connected, is-indicating}
 use Rattle.machine.specs.Judging.{result}
 use Rattle.console.specs.Control.Replies.{refusal-of}
 use Rattle.console.specs.Control.Calls.{opened, connects, disconnects, indicates, confirms, answers, writes}
 use Rattle.console.specs.Control.Point.{Call, connect, disconnect, confirm, indicate, service, Event, step, run}
 use Rattle.console.specs.Control.Laws.{Present, Sound, caller, Heard}
-use Rattle.machine.proofs.Tests.{passed, failed, tested, eqb-eq, eqb-same, ltb-false, ltb-le, test-holds}
+use Rattle.kinds.proofs.Tests.{passed, failed, tested, eqb-eq, eqb-same, ltb-false, ltb-le, test-holds}
 use Rattle.console.proofs.ControlLaws.Kept.{sound-step, sound-after}
 
 -- ---- some call succeeds

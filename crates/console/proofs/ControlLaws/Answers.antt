@@ -11,12 +11,12 @@ use borrow.Author.Tests.{lt-ltb, le-ltb, eq-eqb, ne-eqb}
 use Rattle.wire.specs.declared.feature.Feature.{Feature}
 use Rattle.wire.specs.Answer.{Answer, refused, given}
 use Rattle.wire.specs.Feature.{feature-of}
-use Rattle.machine.specs.declared.ranges.Ranges.{Ranges}
+use Rattle.codes.specs.declared.ranges.Ranges.{Ranges}
 use Rattle.machine.specs.declared.machine.Machine.{Machine}
 use Rattle.machine.specs.declared.effects.Performed.{Performed}
 use Rattle.machine.specs.declared.machine.Who.the-variants.{Client}
-use Rattle.machine.specs.Ranges.{in-order}
-use Rattle.machine.specs.OpCodes.{row}
+use Rattle.codes.specs.Ranges.{in-order}
+use Rattle.codes.specs.OpCodes.{row}
 use Rattle.machine.specs.Machine.{someone, is-connected, is-indicating, fresh, awaiting}
 use Rattle.machine.specs.Judging.{result}
 use Rattle.machine.specs.Effects.{done, carried, performed}
@@ -25,7 +25,7 @@ use Rattle.console.specs.declared.control.Written.{Written}
 use Rattle.console.specs.declared.control.Outcome.the-variants.{Done}
 use Rattle.console.specs.Control.Replies.{refuses, responds, Says}
 use Rattle.console.specs.Control.Calls.{open-with, opened, answers, writes}
-use Rattle.machine.proofs.Tests.{passed, failed, tested}
+use Rattle.kinds.proofs.Tests.{passed, failed, tested}
 
 -- ---- opening
 

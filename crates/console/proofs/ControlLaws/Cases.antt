@@ -2,7 +2,7 @@
 use mathlib.Core.Path.{_≡_, refl}
 use Rattle.kinds.specs.Groups.{has}
 use Rattle.wire.specs.Octets.{number}
-use Rattle.machine.specs.OpCodes.{row}
+use Rattle.codes.specs.OpCodes.{row}
 use Rattle.machine.specs.Judging.{fit, result}
 use Rattle.console.specs.Control.Calls.{opened, connects, disconnects, indicates, confirms, writes}
 use Rattle.console.specs.Control.Point.{run}

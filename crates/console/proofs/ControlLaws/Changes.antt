@@ -12,9 +12,9 @@ use Rattle.wire.specs.Octets.{number}
 use Rattle.machine.specs.declared.machine.Machine.{Machine}
 use Rattle.machine.specs.declared.machine.Who.{Who}
 use Rattle.machine.specs.declared.machine.Who.the-variants.{Nobody, Client}
-use Rattle.machine.specs.declared.op_codes.Act.{Act}
-use Rattle.machine.specs.declared.op_codes.Act.the-variants.{TakesControl, Resets, Starts, Halts, Stores, Nothing}
-use Rattle.machine.specs.OpCodes.{row}
+use Rattle.codes.specs.declared.op_codes.Act.{Act}
+use Rattle.codes.specs.declared.op_codes.Act.the-variants.{TakesControl, Resets, Starts, Halts, Stores, Nothing}
+use Rattle.codes.specs.OpCodes.{row}
 use Rattle.machine.specs.Machine.{is, someone, without, awaiting}
 use Rattle.machine.specs.Judging.{controls, fails}
 use Rattle.machine.specs.Effects.{done}
@@ -22,7 +22,7 @@ use Rattle.console.specs.Control.Replies.{Reply, refusal-of, response-of
 use Rattle.console.specs.Control.Calls.{disconnects, writes}
 use Rattle.console.specs.Control.Point.{Call, disconnect, write, service, step}
 use Rattle.console.specs.Control.Laws.{caller, Unchanged, Spared}
-use Rattle.machine.proofs.Tests.{passed, failed, tested, eqb-eq}
+use Rattle.kinds.proofs.Tests.{passed, failed, tested, eqb-eq}
 use Rattle.console.proofs.ControlLaws.Steps.{Stepped, refusal, connected, gone, indicated, confirmed, denied, granted, steps}
 
 pub is-client : (w : Who) (c : ℕ) → is w c ≡ true → w ≡ Client c

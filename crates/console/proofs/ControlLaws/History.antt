@@ -9,13 +9,13 @@ use lib.Dec.{eqb}
 use lib.ListN.{getD}
 use Rattle.wire.specs.declared.feature.Feature.{Feature}
 use Rattle.wire.specs.Answer.{Answer, refused, given}
-use Rattle.machine.specs.declared.ranges.Ranges.{Ranges}
+use Rattle.codes.specs.declared.ranges.Ranges.{Ranges}
 use Rattle.machine.specs.declared.machine.Machine.{Machine}
 use Rattle.machine.specs.declared.machine.Who.{Who}
 use Rattle.machine.specs.declared.machine.Who.the-variants.{Nobody, Client}
-use Rattle.machine.specs.declared.op_codes.Act.{Act}
-use Rattle.machine.specs.declared.op_codes.Act.the-variants.{TakesControl, Resets, Starts, Halts, Stores, Nothing}
-use Rattle.machine.specs.OpCodes.{OpCode, row}
+use Rattle.codes.specs.declared.op_codes.Act.{Act}
+use Rattle.codes.specs.declared.op_codes.Act.the-variants.{TakesControl, Resets, Starts, Halts, Stores, Nothing}
+use Rattle.codes.specs.OpCodes.{OpCode, row}
 use Rattle.machine.specs.Machine.{without, fresh, awaiting, held-by}
 use Rattle.machine.specs.Judging.{controls}
 use Rattle.machine.specs.Effects.{done}
@@ -23,9 +23,9 @@ use Rattle.console.specs.Control.Replies.{Reply, reply, response-of}
 use Rattle.console.specs.Control.Calls.{opened, writes}
 use Rattle.console.specs.Control.Point.{Call, connect, disconnect, confirm, indicate, write, service, Event, step, run}
 use Rattle.console.specs.Control.Laws.{caller, succeeded, is-disconnect, ends, any, holder-by}
-use Rattle.machine.proofs.Tests.{passed, failed, tested, eqb-eq, eqb-false, eqb-same}
+use Rattle.kinds.proofs.Tests.{passed, failed, tested, eqb-eq, eqb-false, eqb-same}
 use Rattle.console.proofs.ControlLaws.Steps.{Granted, Stepped, refusal, connected, gone, indicated, confirmed, denied, granted, steps}
-use Rattle.machine.proofs.Rule.{row-rule, row-op}
+use Rattle.codes.proofs.Rule.{row-rule, row-op}
 use Rattle.console.proofs.ControlLaws.Kept.{opened-fresh}
 use Rattle.console.proofs.ControlLaws.Changes.{is-client}
 
@@ -138,13 +138,13 @@ next-gone c (Client d) = refl
 
 next-stepped : (m : Machine) {k : Call} {x : Answer Reply × Machine} → Stepped m k x → x .1 .holder ≡ next (record { call = k; answer = x .0 }) (m .holder)
 next-stepped m {k} (refusal n l g) =
-    unfreed (record { call = k; answer = refused n }) (m .holder) refl (λ d. rw (eqb-false n 0 (λ (e : n ≡ 0). omega arith), and-no (is-disconnect k)))
+    unfreed (record { call = k; answer = refused n }) (m .holder) refl (λ d. rw (eqb-false {n} {0} (λ (e : n ≡ 0). omega arith), and-no (is-disconnect k)))
 next-stepped m (connected c h e) = unfreed (record { call = connect c; answer = reply [] [] }) (m .holder) refl (λ d. refl)
 next-stepped m (gone c h e) = next-gone c (m .holder)
 next-stepped m (indicated c on h e) = unfreed (record { call = indicate c on; answer = reply [] [] }) (m .holder) refl (λ d. refl)
 next-stepped m (confirmed c h e f) = unfreed (record { call = confirm c; answer = reply [] [] }) (m .holder) refl (λ d. refl)
 next-stepped m (denied c o p h n l g) =
-    let z : eqb n 1 ≡ false = eqb-false n 1 (λ (e : n ≡ 1). omega arith) in
+    let z : eqb n 1 ≡ false = eqb-false {n} {1} (λ (e : n ≡ 1). omega arith) in
     unfreed (record { call = write c (o ∷ p); answer = reply (0x80 ∷ o ∷ n ∷ []) [] }) (m .holder) (rw z) (λ d. rw z)
 next-stepped m (granted c o p h g) = unfold granted-event in next-granted m c o p g
 

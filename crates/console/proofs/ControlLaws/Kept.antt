@@ -11,14 +11,14 @@ use Rattle.wire.specs.declared.feature.Feature.{Feature}
 use Rattle.wire.specs.Feature.{feature-of}
 use Rattle.wire.specs.Answer.{Answer, refused, given}
 use Rattle.wire.specs.Octets.{number, placed}
-use Rattle.machine.specs.declared.ranges.Ranges.{Ranges}
+use Rattle.codes.specs.declared.ranges.Ranges.{Ranges}
 use Rattle.machine.specs.declared.machine.Machine.{Machine}
 use Rattle.machine.specs.declared.machine.Who.{Who}
 use Rattle.machine.specs.declared.machine.Who.the-variants.{Nobody, Client}
-use Rattle.machine.specs.declared.op_codes.Act.{Act}
-use Rattle.machine.specs.declared.op_codes.Act.the-variants.{TakesControl, Resets, Starts, Halts, Stores, Nothing}
-use Rattle.machine.specs.Ranges.{in-order, allowed}
-use Rattle.machine.specs.OpCodes.{row, size}
+use Rattle.codes.specs.declared.op_codes.Act.{Act}
+use Rattle.codes.specs.declared.op_codes.Act.the-variants.{TakesControl, Resets, Starts, Halts, Stores, Nothing}
+use Rattle.codes.specs.Ranges.{in-order, allowed}
+use Rattle.codes.specs.OpCodes.{row, size}
 use Rattle.machine.specs.Machine.{without, is-connected, fresh, awaiting, storing}
 use Rattle.machine.specs.Judging.{known-halt, fit}
 use Rattle.machine.specs.Effects.{done, setting}
@@ -26,8 +26,8 @@ use Rattle.console.specs.Control.Replies.{Reply}
 use Rattle.console.specs.Control.Calls.{open-with, opened}
 use Rattle.console.specs.Control.Point.{Call, service, Event, step, run}
 use Rattle.console.specs.Control.Laws.{Present, Links, Right, at-zero, set-to, Sound}
-use Rattle.machine.proofs.Tests.{passed, failed, tested, eqb-eq, eqb-ne, and-left, and-right}
-use Rattle.machine.proofs.Rule.{length-fit}
+use Rattle.kinds.proofs.Tests.{passed, failed, tested, eqb-eq, eqb-ne, and-l, and-r}
+use Rattle.machine.proofs.Fits.{length-fit}
 use Rattle.console.proofs.ControlLaws.Places.{stored-same, stored-other, zero-at}
 use Rattle.console.proofs.ControlLaws.Steps.{Stepped, refusal, connected, gone, indicated, confirmed, denied, granted, steps}
 
@@ -115,7 +115,7 @@ module _ (m : Machine) (s : Sound m) (c o : ℕ) (p : List ℕ) (f : is-connecte
   unfolding fit
   in-range-fit =
       let x : Bool = allowed (m .ranges) (row o .bound) p in
-      and-left x (known-halt (row o .act) (number 1 p)) (and-right (eqb (length p) (size (row o .parameter))) (x && known-halt (row o .act) (number 1 p)) g)
+      and-l x (known-halt (row o .act) (number 1 p)) (and-r (eqb (length p) (size (row o .parameter))) (x && known-halt (row o .act) (number 1 p)) g)
 
   stored-right : (a : ℕ) → row o .act ≡ Stores a → (i : ℕ) → Right (m .ranges) i (setting (storing m (placed (m .settings) a p)) i)
   stored-right a e i = elim (tested (eqb i o)) [

@@ -10,10 +10,10 @@ use Rattle.wire.specs.declared.feature.Feature.{Feature}
 use Rattle.wire.specs.Answer.{Answer, refused, given}
 use Rattle.kinds.specs.Groups.{has}
 use Rattle.wire.specs.Octets.{number}
-use Rattle.machine.specs.declared.ranges.Ranges.{Ranges}
-use Rattle.machine.specs.declared.ranges.SignedRange.{SignedRange}
+use Rattle.codes.specs.declared.ranges.Ranges.{Ranges}
+use Rattle.codes.specs.declared.ranges.SignedRange.{SignedRange}
 use Rattle.machine.specs.declared.machine.Machine.{Machine}
-use Rattle.machine.specs.OpCodes.{row}
+use Rattle.codes.specs.OpCodes.{row}
 use Rattle.machine.specs.Machine.{fresh}
 use Rattle.machine.specs.Judging.{fit, result}
 use Rattle.console.specs.Control.Replies.{Reply, reply, response-of}

@@ -8,14 +8,14 @@ use lib.ListN.{getD}
 use base.Fml.{Lft}
 use denote.Ref.{RefT, now}
 use Rattle.wire.specs.Answer.{Answer, given}
-use Rattle.machine.specs.declared.ranges.Ranges.{Ranges}
+use Rattle.codes.specs.declared.ranges.Ranges.{Ranges}
 use Rattle.machine.specs.declared.machine.Machine.{Machine}
 use Rattle.machine.specs.declared.machine.Who.the-variants.{Client}
 use Rattle.console.specs.declared.control.Opened.{Opened}
 use Rattle.console.specs.declared.control.Moved.{Moved}
 use Rattle.console.specs.declared.control.Written.{Written}
-use Rattle.machine.specs.declared.op_codes.Act.the-variants.{Stores}
-use Rattle.machine.specs.OpCodes.{row}
+use Rattle.codes.specs.declared.op_codes.Act.the-variants.{Stores}
+use Rattle.codes.specs.OpCodes.{row}
 use Rattle.console.specs.Control.Replies.{Reply, refusal-of, response-of, meant-opened, meant-moved, meant-written}
 use Rattle.machine.specs.Effects.{setting}
 use Rattle.console.specs.Control.Calls.{opened}

@@ -10,14 +10,15 @@ use lib.ListN.{length, take, drop, set, replicate}
 use lib.Seq.{sets-eq, take-at, drop-at, length-take-le, take-set-le, drop-set-lt, drop-set-add}
 use Rattle.wire.specs.Octets.{placed}
 use Rattle.machine.specs.declared.machine.Machine.{Machine}
-use Rattle.machine.specs.declared.op_codes.Act.{Act}
-use Rattle.machine.specs.declared.op_codes.Act.the-variants.{TakesControl, Resets, Starts, Halts, Stores, Nothing}
-use Rattle.machine.specs.OpCodes.{OpCode, at, table, row, size}
+use Rattle.codes.specs.declared.op_codes.Act.{Act}
+use Rattle.codes.specs.declared.op_codes.Act.the-variants.{TakesControl, Resets, Starts, Halts, Stores, Nothing}
+use Rattle.codes.specs.OpCodes.{OpCode, at, table, row, size}
 use Rattle.machine.specs.Machine.{storing}
 use Rattle.machine.specs.Effects.{part, setting}
 use Rattle.console.specs.Control.Laws.{zero-setting}
-use Rattle.machine.proofs.Tests.{test-holds, eqb-false}
-use Rattle.machine.proofs.Rule.{every, row-rule, row-op, place-fits}
+use Rattle.kinds.proofs.Tests.{test-holds, eqb-false}
+use Rattle.kinds.proofs.Tests.{all}
+use Rattle.codes.proofs.Rule.{row-rule, row-op, place-fits}
 
 -- ---- octets from a place on, where others are written before or after them, or over them
 
@@ -63,8 +64,8 @@ or-cases : (x y : Bool) → (x || y) ≡ true → (x ≡ true) ⊎ (y ≡ true)
 or-cases true y e = inl refl
 or-cases false y e = inr e
 
-all-clear : (o : ℕ) → every (clear (row o)) table ≡ true
-all-clear o = row-rule (λ r. every (clear r) table) o refl refl
+all-clear : (o : ℕ) → all (clear (row o)) table ≡ true
+all-clear o = row-rule (λ r. all (clear r) table) o refl refl
 
 module _ (o i a b : ℕ) (e : row o .act ≡ Stores a) (f : row i .act ≡ Stores b) (d : i ≡ o → ⊥) where
   apart-two : (a + size (row o .parameter) ≤ b) ⊎ (b + size (row i .parameter) ≤ a)
@@ -72,7 +73,7 @@ module _ (o i a b : ℕ) (e : row o .act ≡ Stores a) (f : row i .act ≡ Store
       let h : clear (row o) (row i) ≡ true = row-rule (clear (row o)) i (rw e) (all-clear o) in
       let k : ((leb (a + size (row o .parameter)) b || leb (b + size (row i .parameter)) a) || eqb o i) ≡ true = rw (e, f, row-op o, row-op i) at h in
       elim (or-cases (leb (a + size (row o .parameter)) b || leb (b + size (row i .parameter)) a) (eqb o i) k) [
-        | inr z ↦ absurd (true≢false (sym z ∙ eqb-false o i (λ (q : o ≡ i). d (sym q))))
+        | inr z ↦ absurd (true≢false (sym z ∙ eqb-false {o} {i} (λ (q : o ≡ i). d (sym q))))
         | inl z ↦ elim (or-cases (leb (a + size (row o .parameter)) b) (leb (b + size (row i .parameter)) a) z) [
           | inl y ↦ inl (leb→le (a + size (row o .parameter)) b (test-holds y))
           | inr y ↦ inr (leb→le (b + size (row i .parameter)) a (test-holds y))

@@ -8,12 +8,12 @@ use lib.Dec.{eqb}
 use lib.ListN.{getD}
 use Rattle.wire.specs.declared.feature.Feature.{Feature}
 use Rattle.wire.specs.Answer.{Answer, given}
-use Rattle.machine.specs.declared.ranges.Ranges.{Ranges}
+use Rattle.codes.specs.declared.ranges.Ranges.{Ranges}
 use Rattle.machine.specs.declared.machine.Machine.{Machine}
 use Rattle.machine.specs.declared.machine.Who.the-variants.{Client}
-use Rattle.machine.specs.declared.op_codes.Act.{Act}
-use Rattle.machine.specs.declared.op_codes.Act.the-variants.{TakesControl, Resets, Starts, Halts, Stores, Nothing}
-use Rattle.machine.specs.OpCodes.{OpCode, row}
+use Rattle.codes.specs.declared.op_codes.Act.{Act}
+use Rattle.codes.specs.declared.op_codes.Act.the-variants.{TakesControl, Resets, Starts, Halts, Stores, Nothing}
+use Rattle.codes.specs.OpCodes.{OpCode, row}
 use Rattle.machine.specs.Machine.{fresh, awaiting}
 use Rattle.machine.specs.Judging.{fit}
 use Rattle.machine.specs.Effects.{done, setting}
@@ -21,8 +21,9 @@ use Rattle.console.specs.Control.Replies.{Reply, response-of}
 use Rattle.console.specs.Control.Calls.{opened, writes}
 use Rattle.console.specs.Control.Point.{Call, write, service, Event, step, run}
 use Rattle.console.specs.Control.Laws.{Sound, zero-setting, parameter, succeeded, setting-by}
-use Rattle.machine.proofs.Tests.{passed, failed, tested, eqb-eq, eqb-ne, eqb-false}
-use Rattle.machine.proofs.Rule.{row-rule, row-op, length-fit}
+use Rattle.kinds.proofs.Tests.{passed, failed, tested, eqb-eq, eqb-ne, eqb-false}
+use Rattle.codes.proofs.Rule.{row-rule, row-op}
+use Rattle.machine.proofs.Fits.{length-fit}
 use Rattle.console.proofs.ControlLaws.Steps.{Stepped, refusal, connected, gone, indicated, confirmed, denied, granted, steps}
 use Rattle.console.proofs.ControlLaws.Places.{stored-same, stored-other, zero-at}
 use Rattle.console.proofs.ControlLaws.Kept.{opened-fresh, sound-fresh, sound-step}
@@ -58,10 +59,10 @@ module _ (m : Machine) (s : Sound m) (c w : ℕ) (p : List ℕ) (g : fit (m .ran
 
   -- a write of an op code that stores elsewhere, or nothing, leaves the setting
   after-done : eqb w 1 ≡ false → (x : Act) → row w .act ≡ x → setting (done (awaiting m (Client c)) c x p) o ≡ cond (eqb w o) p (setting m o)
-  after-done f TakesControl d = rw (eqb-false w o (λ (q : w ≡ o). let z : _≡_ {A = ℕ} 0 1 = cc in omega arith)) (unfold setting in refl)
+  after-done f TakesControl d = rw (eqb-false {w} {o} (λ (q : w ≡ o). let z : _≡_ {A = ℕ} 0 1 = cc in omega arith)) (unfold setting in refl)
   after-done f Resets d = absurd (true≢false (sym (reset-is-01 w d) ∙ f))
-  after-done f Starts d = rw (eqb-false w o (λ (q : w ≡ o). let z : _≡_ {A = ℕ} 0 1 = cc in omega arith)) (unfold setting in refl)
-  after-done f Halts d = rw (eqb-false w o (λ (q : w ≡ o). let z : _≡_ {A = ℕ} 0 1 = cc in omega arith)) (unfold setting in refl)
+  after-done f Starts d = rw (eqb-false {w} {o} (λ (q : w ≡ o). let z : _≡_ {A = ℕ} 0 1 = cc in omega arith)) (unfold setting in refl)
+  after-done f Halts d = rw (eqb-false {w} {o} (λ (q : w ≡ o). let z : _≡_ {A = ℕ} 0 1 = cc in omega arith)) (unfold setting in refl)
   after-done f (Stores b) d = elim (tested (eqb w o)) [
     | passed t ↦
         let q : w ≡ o = eqb-eq w o t in
@@ -69,7 +70,7 @@ module _ (m : Machine) (s : Sound m) (c w : ℕ) (p : List ℕ) (g : fit (m .ran
     | failed t ↦
         rw t ((unfold setting in stored-other (awaiting m (Client c)) w b p d (length-fit (m .ranges) w p g) (s .room) o (λ (q : o ≡ w). eqb-ne w o t (sym q))))
   ]
-  after-done f Nothing d = rw (eqb-false w o (λ (q : w ≡ o). let z : _≡_ {A = ℕ} 0 1 = cc in omega arith)) (unfold setting in refl)
+  after-done f Nothing d = rw (eqb-false {w} {o} (λ (q : w ≡ o). let z : _≡_ {A = ℕ} 0 1 = cc in omega arith)) (unfold setting in refl)
 
   next-granted : setting (done (awaiting m (Client c)) c (row w .act) p) o ≡ cond (eqb w 1) (zero-setting (row o) (row o .act)) (cond (eqb w o) p (setting m o))
   next-granted = elim (tested (eqb w 1)) [
@@ -85,7 +86,7 @@ module _ (m : Machine) (s : Sound m) (o a : ℕ) (e : row o .act ≡ Stores a) w
   next-stepped (gone c h f) = refl
   next-stepped (indicated c on h f) = refl
   next-stepped (confirmed c h f g) = refl
-  next-stepped (denied c w p h n l g) = let z : eqb n 1 ≡ false = eqb-false n 1 (λ (e : n ≡ 1). omega arith) in rw z
+  next-stepped (denied c w p h n l g) = let z : eqb n 1 ≡ false = eqb-false {n} {1} (λ (e : n ≡ 1). omega arith) in rw z
   next-stepped (granted c w p h g) = next-granted m s c w p (g .suits) o a e
 
 -- ---- sequences of calls

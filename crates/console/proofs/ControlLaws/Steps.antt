@@ -10,7 +10,7 @@ use Rattle.wire.specs.Answer.{Answer}
 use Rattle.wire.specs.Octets.{number}
 use Rattle.machine.specs.declared.machine.Machine.{Machine}
 use Rattle.machine.specs.declared.machine.Who.the-variants.{Nobody, Client}
-use Rattle.machine.specs.OpCodes.{row}
+use Rattle.codes.specs.OpCodes.{row}
 use Rattle.machine.specs.Machine.{is, someone, without, is-connected, is-indicating, linked, awaiting}
 use Rattle.machine.specs.Judging.{supports, controls, fit, fails, result}
 use Rattle.machine.specs.Effects.{done}
@@ -18,7 +18,7 @@ use Rattle.console.specs.Control.Replies.{Reply, reply, refuses, accepts
 use Rattle.console.specs.Control.Calls.{connects, disconnects, indicates, confirms, answers, writes}
 use Rattle.console.specs.Control.Point.{Call, connect, disconnect, confirm, indicate, write, service, step}
 use Rattle.console.specs.Control.Laws.{Heard}
-use Rattle.machine.proofs.Tests.{passed, failed, tested, eqb-false, ltb-le}
+use Rattle.kinds.proofs.Tests.{passed, failed, tested, eqb-false, ltb-le}
 
 -- what must hold of a write that succeeds
 pub record Granted (m : Machine) (c o : ℕ) (p : List ℕ) : Type 0 where
@@ -112,7 +112,7 @@ module _ (m : Machine) (c o : ℕ) (p : List ℕ) where
   ]
 
   not-one : (n : ℕ) → 2 ≤ n → eqb n 1 ≡ false
-  not-one n h = eqb-false n 1 (λ (e : n ≡ 1). omega arith)
+  not-one n h = eqb-false {n} {1} (λ (e : n ≡ 1). omega arith)
 
   answers-step : Heard m c → (n : ℕ) → Judged m c o p n → Stepped m (write c (o ∷ p)) (answers m c o p n)
   answers-step h n (against i l g) = rw (not-one i l) (denied c o p h i l g)

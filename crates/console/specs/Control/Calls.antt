@@ -7,11 +7,11 @@ use lib.ListN.{length, getD, set, drop}
 use Rattle.wire.specs.declared.feature.Feature.{Feature}
 use Rattle.wire.specs.Answer.{Answer, refused, given, provided}
 use Rattle.wire.specs.Feature.{feature-of}
-use Rattle.machine.specs.declared.ranges.Ranges.{Ranges}
+use Rattle.codes.specs.declared.ranges.Ranges.{Ranges}
 use Rattle.machine.specs.declared.machine.Machine.{Machine}
 use Rattle.machine.specs.declared.machine.Who.the-variants.{Nobody, Client}
-use Rattle.machine.specs.Ranges.{in-order}
-use Rattle.machine.specs.OpCodes.{row}
+use Rattle.codes.specs.Ranges.{in-order}
+use Rattle.codes.specs.OpCodes.{row}
 use Rattle.machine.specs.Machine.{is, someone, without, is-connected, is-indicating, fresh, linked, awaiting}
 use Rattle.machine.specs.Judging.{result}
 use Rattle.machine.specs.Effects.{done}

@@ -7,14 +7,14 @@ use mathlib.Core.List.{List, [], _∷_}
 use lib.Dec.{eqb}
 use lib.ListN.{length, getD, drop, replicate}
 use Rattle.wire.specs.Answer.{Answer}
-use Rattle.machine.specs.declared.ranges.Ranges.{Ranges}
+use Rattle.codes.specs.declared.ranges.Ranges.{Ranges}
 use Rattle.machine.specs.declared.machine.Machine.{Machine}
 use Rattle.machine.specs.declared.machine.Who.{Who}
 use Rattle.machine.specs.declared.machine.Who.the-variants.{Nobody, Client}
-use Rattle.machine.specs.declared.op_codes.Act.{Act}
-use Rattle.machine.specs.declared.op_codes.Act.the-variants.{TakesControl, Resets, Starts, Halts, Stores, Nothing}
-use Rattle.machine.specs.Ranges.{allowed}
-use Rattle.machine.specs.OpCodes.{OpCode, row, size}
+use Rattle.codes.specs.declared.op_codes.Act.{Act}
+use Rattle.codes.specs.declared.op_codes.Act.the-variants.{TakesControl, Resets, Starts, Halts, Stores, Nothing}
+use Rattle.codes.specs.Ranges.{allowed}
+use Rattle.codes.specs.OpCodes.{OpCode, row, size}
 use Rattle.machine.specs.Machine.{someone, is-connected, is-indicating}
 use Rattle.console.specs.Control.Replies.{Reply, refusal-of, response-of, status-of}
 use Rattle.machine.specs.Effects.{setting}

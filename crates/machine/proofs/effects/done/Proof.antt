@@ -2,12 +2,13 @@
 use mathlib.Core.Path.{_≡_, sym, ap, _∙_}
 use borrow.Author.Needs.{needs}
 use denote.Ref.{now}
-use Rattle.machine.specs.declared.op_codes.Row
-use Rattle.machine.specs.declared.op_codes.Act.{Act}
-use Rattle.machine.specs.OpCodes.{row}
+use Rattle.codes.specs.declared.op_codes.Row
+use Rattle.codes.specs.declared.op_codes.Act.{Act}
+use Rattle.codes.specs.OpCodes.{row}
 use Rattle.machine.specs.Machine.{going}
 use Rattle.machine.specs.Effects.{done, halted-to}
-use Rattle.machine.proofs.Rule.{length-fit, place-fits}
+use Rattle.codes.proofs.Rule.{place-fits}
+use Rattle.machine.proofs.Fits.{length-fit}
 use Rattle.machine.proofs.effects.done.Statement.{statement}
 use Rattle.machine.proofs.effects.done.Tie as tie
 

@@ -5,10 +5,11 @@ use mathlib.Core.List.{[], _∷_, _++_}
 use borrow.Author.Needs.{needs}
 use denote.Ref.{now}
 use lib.ListN.{getD}
-use Rattle.machine.specs.declared.op_codes.Row
-use Rattle.machine.specs.OpCodes.{row}
+use Rattle.codes.specs.declared.op_codes.Row
+use Rattle.codes.specs.OpCodes.{row}
 use Rattle.machine.specs.Octets.{boxed}
-use Rattle.machine.proofs.Rule.{short, silent, spoken}
+use Rattle.machine.proofs.Fits.{short, silent}
+use Rattle.codes.proofs.Rule.{spoken}
 use Rattle.machine.proofs.effects.granted.Statement.{statement}
 use Rattle.machine.proofs.effects.granted.Tie as tie
 

@@ -3,7 +3,7 @@ use mathlib.Core.Path.{sym, ap, _∙_}
 use borrow.Author.Needs.{needs}
 use denote.Ref.{now}
 use Rattle.machine.specs.declared.octets.Octets.{Octets}
-use Rattle.machine.specs.OpCodes.{row}
+use Rattle.codes.specs.OpCodes.{row}
 use Rattle.machine.proofs.Results.{fit-of-one, performs-01, performs-other}
 use Rattle.machine.proofs.effects.perform.Statement.{statement}
 use Rattle.machine.proofs.effects.perform.Tie as tie

@@ -3,12 +3,12 @@ use Prim.Native.Nat.{ℕ, _≤_}
 use mathlib.Core.Path.{_≡_, sym, ap, _∙_}
 use native.Mathlib.Omega.{arith}
 use borrow.Author.Needs.{needs}
-use Rattle.machine.specs.declared.op_codes.Row
-use Rattle.machine.specs.declared.op_codes.Act.{Act}
-use Rattle.machine.specs.OpCodes.{row, size}
+use Rattle.codes.specs.declared.op_codes.Row
+use Rattle.codes.specs.declared.op_codes.Act.{Act}
+use Rattle.codes.specs.OpCodes.{row, size}
 use Rattle.machine.specs.Octets.{boxed}
 use Rattle.machine.specs.Effects.{part, setting}
-use Rattle.machine.proofs.Rule.{place-fits, size-most}
+use Rattle.codes.proofs.Rule.{place-fits, size-most}
 use Rattle.machine.proofs.effects.setting.Statement.{statement}
 use Rattle.machine.proofs.effects.setting.Tie as tie
 

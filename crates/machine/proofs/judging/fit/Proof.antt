@@ -6,9 +6,9 @@ use borrow.Author.Tests.{eq-eqb, ne-eqb, not-true, not-false}
 use borrow.Author.Needs.{needs}
 use denote.Ref.{now}
 use lib.ListN.{length}
-use Rattle.machine.specs.declared.op_codes.Row
-use Rattle.machine.specs.Ranges.{allowed}
-use Rattle.machine.specs.OpCodes.{row, size}
+use Rattle.codes.specs.declared.op_codes.Row
+use Rattle.codes.specs.Ranges.{allowed}
+use Rattle.codes.specs.OpCodes.{row, size}
 use Rattle.machine.specs.Judging.{fit}
 use Rattle.machine.proofs.judging.fit.Statement.{statement}
 use Rattle.machine.proofs.judging.fit.Tie as tie

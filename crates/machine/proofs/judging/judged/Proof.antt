@@ -2,8 +2,8 @@
 use mathlib.Core.Path.{ap, _∙_}
 use borrow.Author.Needs.{needs}
 use denote.Ref.{now}
-use Rattle.machine.specs.OpCodes.{row}
-use Rattle.machine.specs.declared.op_codes.Row
+use Rattle.codes.specs.OpCodes.{row}
+use Rattle.codes.specs.declared.op_codes.Row
 use Rattle.machine.specs.Judging.{supports, controls, fails}
 use Rattle.machine.proofs.Results.{judges}
 use Rattle.machine.proofs.judging.judged.Statement.{statement}

@@ -10,7 +10,7 @@ use lib.Dec.{leb}
 use Rattle.kinds.specs.Groups.{known}
 use Rattle.record.specs.Record.{formed}
 use Rattle.record.specs.Split.{payload-known, split-wire}
-use Rattle.kinds.proofs.Sets.{and-l}
+use Rattle.kinds.proofs.Tests.{and-l}
 use Rattle.record.proofs.Records.{formed-listed, formed-way}
 use Rattle.record.proofs.Parts.{listed-groups-low, listed-groups-even}
 use Rattle.record.proofs.split.split_numbers.Statement.{statement}

@@ -3,8 +3,8 @@ use borrow.Author.Needs.{needs}
 use mir.Syntax.{w16}
 use mir.Val.{SFits}
 use mir.Facts.{toZ-ofZ}
-use Rattle.machine.proofs.ranges.signed_in.Statement.{statement}
-use Rattle.machine.proofs.ranges.signed_in.Tie as tie
+use Rattle.codes.proofs.ranges.signed_in.Statement.{statement}
+use Rattle.codes.proofs.ranges.signed_in.Tie as tie
 
 returns : tie.Need-returns
 returns c =

@@ -6,7 +6,7 @@ use wire::octets::u16_at;
 ghost use mathlib.Core.Path.{_≡_};
 ghost use lib.IntN.{pos};
 ghost use lib.Signed.{leZ};
-ghost use Rattle.machine.specs.Ranges.{in-range, in-order as Ranges·in-order, allowed as Ranges·allowed};
+ghost use Rattle.codes.specs.Ranges.{in-range, in-order as Ranges·in-order, allowed as Ranges·allowed};
 
 pub struct SpeedRange {
     pub least: u16,
@@ -89,7 +89,7 @@ fn signed_in(range: SignedRange, x: i16) -> bool
 }
 
 // Whether a parameter lies in the range that bounds it, if any does. Resistance is one unsigned octet in a signed range.
-pub(crate) fn allowed(ranges: Ranges, bound: Bound, p: &[u8]) -> bool
+pub fn allowed(ranges: Ranges, bound: Bound, p: &[u8]) -> bool
     ensures { λ b. ⌜ b ≡ Ranges·allowed ranges bound (now (p .entry)) ⌝ }
 {
     let speed = ranges.speed;

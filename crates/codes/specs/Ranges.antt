@@ -5,9 +5,9 @@ use mathlib.Core.List.{List}
 use lib.IntN.{ℤ, pos}
 use lib.Signed.{leZ}
 use Rattle.wire.specs.Octets.{number, signed}
-use Rattle.machine.specs.declared.ranges.Ranges.{Ranges}
-use Rattle.machine.specs.declared.op_codes.Bound.{Bound}
-use Rattle.machine.specs.declared.op_codes.Bound.the-variants.{Free, Speed, Inclination, Resistance, Power, HeartRate}
+use Rattle.codes.specs.declared.ranges.Ranges.{Ranges}
+use Rattle.codes.specs.declared.op_codes.Bound.{Bound}
+use Rattle.codes.specs.declared.op_codes.Bound.the-variants.{Free, Speed, Inclination, Resistance, Power, HeartRate}
 
 -- "both allowed"
 abbrev pub in-range : ℤ → ℤ → ℤ → Bool

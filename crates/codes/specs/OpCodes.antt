@@ -5,13 +5,13 @@ use lib.ListN.{getD}
 use Rattle.kinds.specs.declared.layout.Width.{Width}
 use Rattle.kinds.specs.declared.layout.Width.the-variants.{U8, U16, U24, S16}
 use Rattle.kinds.specs.Layout.{octets-of}
-use Rattle.machine.specs.declared.op_codes.Row
-use Rattle.machine.specs.declared.op_codes.Need.{Need}
-use Rattle.machine.specs.declared.op_codes.Need.the-variants.{Always, Never, Bit}
-use Rattle.machine.specs.declared.op_codes.Bound.{Bound}
-use Rattle.machine.specs.declared.op_codes.Bound.the-variants.{Free, Speed, Inclination, Resistance, Power, HeartRate}
-use Rattle.machine.specs.declared.op_codes.Act.{Act}
-use Rattle.machine.specs.declared.op_codes.Act.the-variants.{TakesControl, Resets, Starts, Halts, Stores, Nothing}
+use Rattle.codes.specs.declared.op_codes.Row
+use Rattle.codes.specs.declared.op_codes.Need.{Need}
+use Rattle.codes.specs.declared.op_codes.Need.the-variants.{Always, Never, Bit}
+use Rattle.codes.specs.declared.op_codes.Bound.{Bound}
+use Rattle.codes.specs.declared.op_codes.Bound.the-variants.{Free, Speed, Inclination, Resistance, Power, HeartRate}
+use Rattle.codes.specs.declared.op_codes.Act.{Act}
+use Rattle.codes.specs.declared.op_codes.Act.the-variants.{TakesControl, Resets, Starts, Halts, Stores, Nothing}
 
 -- the octets that widths take together
 abbrev pub size : List Width → ℕ

@@ -8,9 +8,9 @@ use mir.Syntax.{w16}
 use mir.Val.{toZ, SFits}
 use mir.ValLaws.{toZ-pos}
 use mir.Facts.{toZ-ofZ}
-use Rattle.machine.specs.Ranges.{in-range}
-use Rattle.machine.proofs.ranges.allowed.Statement.{statement}
-use Rattle.machine.proofs.ranges.allowed.Tie as tie
+use Rattle.codes.specs.Ranges.{in-range}
+use Rattle.codes.proofs.ranges.allowed.Statement.{statement}
+use Rattle.codes.proofs.ranges.allowed.Tie as tie
 
 returns-3 : tie.Need-returns-3
 returns-3 c =

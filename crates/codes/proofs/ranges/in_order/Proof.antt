@@ -2,8 +2,8 @@
 use mathlib.Core.Path.{sym, _∙_}
 use borrow.Author.Tests.{le-leb, lt-leb, not-true, not-false}
 use borrow.Author.Needs.{needs}
-use Rattle.machine.proofs.ranges.in_order.Statement.{statement}
-use Rattle.machine.proofs.ranges.in_order.Tie as tie
+use Rattle.codes.proofs.ranges.in_order.Statement.{statement}
+use Rattle.codes.proofs.ranges.in_order.Tie as tie
 
 returns-3 : tie.Need-returns-3
 returns-3 c =

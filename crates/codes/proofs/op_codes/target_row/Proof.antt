@@ -6,13 +6,13 @@ use native.Mathlib.Omega.{arith}
 use borrow.Author.Needs.{needs}
 use lib.ListN.{length, getD, drop, List·getD-map}
 use lib.Seq.{getD-drop}
-use Rattle.machine.specs.declared.op_codes.Need.the-variants.{Never}
-use Rattle.machine.specs.declared.op_codes.Bound.the-variants.{Free}
-use Rattle.machine.specs.declared.op_codes.Act.the-variants.{Nothing}
-use Rattle.machine.specs.OpCodes.{at, table, row, coded}
-use Rattle.machine.proofs.Rule.{any-default}
-use Rattle.machine.proofs.op_codes.target_row.Statement.{statement}
-use Rattle.machine.proofs.op_codes.target_row.Tie as tie
+use Rattle.codes.specs.declared.op_codes.Need.the-variants.{Never}
+use Rattle.codes.specs.declared.op_codes.Bound.the-variants.{Free}
+use Rattle.codes.specs.declared.op_codes.Act.the-variants.{Nothing}
+use Rattle.codes.specs.OpCodes.{at, table, row, coded}
+use Rattle.codes.proofs.Rule.{any-default}
+use Rattle.codes.proofs.op_codes.target_row.Statement.{statement}
+use Rattle.codes.proofs.op_codes.target_row.Tie as tie
 
 returns : tie.Need-returns
 unfolding row

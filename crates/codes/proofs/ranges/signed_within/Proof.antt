@@ -3,8 +3,8 @@ use mathlib.Core.Path.{_≡_}
 use mathlib.Core.Bool.{true, false}
 use lib.Signed.{leZ}
 use mir.Facts.{toZ-ofZ}
-use Rattle.machine.proofs.ranges.signed_within.Statement.{statement}
-use Rattle.machine.proofs.ranges.signed_within.Tie as tie
+use Rattle.codes.proofs.ranges.signed_within.Statement.{statement}
+use Rattle.codes.proofs.ranges.signed_within.Tie as tie
 
 returns : tie.Need-returns
 returns c =

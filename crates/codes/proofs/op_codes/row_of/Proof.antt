@@ -2,12 +2,12 @@
 use mathlib.Core.List.{[]}
 use borrow.Author.Needs.{needs}
 use lib.ListN.{List·getD-eq-default}
-use Rattle.machine.specs.declared.op_codes.Need.the-variants.{Never}
-use Rattle.machine.specs.declared.op_codes.Bound.the-variants.{Free}
-use Rattle.machine.specs.declared.op_codes.Act.the-variants.{Nothing}
-use Rattle.machine.specs.OpCodes.{at, table, row}
-use Rattle.machine.proofs.op_codes.row_of.Statement.{statement}
-use Rattle.machine.proofs.op_codes.row_of.Tie as tie
+use Rattle.codes.specs.declared.op_codes.Need.the-variants.{Never}
+use Rattle.codes.specs.declared.op_codes.Bound.the-variants.{Free}
+use Rattle.codes.specs.declared.op_codes.Act.the-variants.{Nothing}
+use Rattle.codes.specs.OpCodes.{at, table, row}
+use Rattle.codes.proofs.op_codes.row_of.Statement.{statement}
+use Rattle.codes.proofs.op_codes.row_of.Tie as tie
 
 returns-3 : tie.Need-returns-3
 unfolding row

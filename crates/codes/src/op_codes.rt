@@ -1,7 +1,7 @@
 // The op codes: one row each, in their order.
 ghost use mathlib.Core.Path.{_≡_};
 ghost use Prim.Native.Nat.{_≤_, _<_};
-ghost use Rattle.machine.specs.OpCodes.{coded, row};
+ghost use Rattle.codes.specs.OpCodes.{coded, row};
 
 // The target bit that an op code needs, if any.
 pub enum Need {
