@@ -138,13 +138,13 @@ next-gone c (Client d) = refl
 
 next-stepped : (m : Machine) {k : Call} {x : Answer Reply × Machine} → Stepped m k x → x .1 .holder ≡ next (record { call = k; answer = x .0 }) (m .holder)
 next-stepped m {k} (refusal n l g) =
-    unfreed (record { call = k; answer = refused n }) (m .holder) refl (λ d. rw (eqb-false {n} {0} (λ (e : n ≡ 0). omega arith), and-no (is-disconnect k)))
+    unfreed (record { call = k; answer = refused n }) (m .holder) refl (λ d. rw (eqb-false (λ (e : n ≡ 0). omega arith), and-no (is-disconnect k)))
 next-stepped m (connected c h e) = unfreed (record { call = connect c; answer = reply [] [] }) (m .holder) refl (λ d. refl)
 next-stepped m (gone c h e) = next-gone c (m .holder)
 next-stepped m (indicated c on h e) = unfreed (record { call = indicate c on; answer = reply [] [] }) (m .holder) refl (λ d. refl)
 next-stepped m (confirmed c h e f) = unfreed (record { call = confirm c; answer = reply [] [] }) (m .holder) refl (λ d. refl)
 next-stepped m (denied c o p h n l g) =
-    let z : eqb n 1 ≡ false = eqb-false {n} {1} (λ (e : n ≡ 1). omega arith) in
+    let z : eqb n 1 ≡ false = eqb-false (λ (e : n ≡ 1). omega arith) in
     unfreed (record { call = write c (o ∷ p); answer = reply (0x80 ∷ o ∷ n ∷ []) [] }) (m .holder) (rw z) (λ d. rw z)
 next-stepped m (granted c o p h g) = unfold granted-event in next-granted m c o p g
 

@@ -73,7 +73,7 @@ module _ (o i a b : ℕ) (e : row o .act ≡ Stores a) (f : row i .act ≡ Store
       let h : clear (row o) (row i) ≡ true = row-rule (clear (row o)) i (rw e) (all-clear o) in
       let k : ((leb (a + size (row o .parameter)) b || leb (b + size (row i .parameter)) a) || eqb o i) ≡ true = rw (e, f, row-op o, row-op i) at h in
       elim (or-cases (leb (a + size (row o .parameter)) b || leb (b + size (row i .parameter)) a) (eqb o i) k) [
-        | inr z ↦ absurd (true≢false (sym z ∙ eqb-false {o} {i} (λ (q : o ≡ i). d (sym q))))
+        | inr z ↦ absurd (true≢false (sym z ∙ eqb-false (λ (q : o ≡ i). d (sym q))))
         | inl z ↦ elim (or-cases (leb (a + size (row o .parameter)) b) (leb (b + size (row i .parameter)) a) z) [
           | inl y ↦ inl (leb→le (a + size (row o .parameter)) b (test-holds y))
           | inr y ↦ inr (leb→le (b + size (row i .parameter)) a (test-holds y))

@@ -59,10 +59,10 @@ module _ (m : Machine) (s : Sound m) (c w : ℕ) (p : List ℕ) (g : fit (m .ran
 
   -- a write of an op code that stores elsewhere, or nothing, leaves the setting
   after-done : eqb w 1 ≡ false → (x : Act) → row w .act ≡ x → setting (done (awaiting m (Client c)) c x p) o ≡ cond (eqb w o) p (setting m o)
-  after-done f TakesControl d = rw (eqb-false {w} {o} (λ (q : w ≡ o). let z : _≡_ {A = ℕ} 0 1 = cc in omega arith)) (unfold setting in refl)
+  after-done f TakesControl d = rw (eqb-false (λ (q : w ≡ o). let z : _≡_ {A = ℕ} 0 1 = cc in omega arith)) (unfold setting in refl)
   after-done f Resets d = absurd (true≢false (sym (reset-is-01 w d) ∙ f))
-  after-done f Starts d = rw (eqb-false {w} {o} (λ (q : w ≡ o). let z : _≡_ {A = ℕ} 0 1 = cc in omega arith)) (unfold setting in refl)
-  after-done f Halts d = rw (eqb-false {w} {o} (λ (q : w ≡ o). let z : _≡_ {A = ℕ} 0 1 = cc in omega arith)) (unfold setting in refl)
+  after-done f Starts d = rw (eqb-false (λ (q : w ≡ o). let z : _≡_ {A = ℕ} 0 1 = cc in omega arith)) (unfold setting in refl)
+  after-done f Halts d = rw (eqb-false (λ (q : w ≡ o). let z : _≡_ {A = ℕ} 0 1 = cc in omega arith)) (unfold setting in refl)
   after-done f (Stores b) d = elim (tested (eqb w o)) [
     | passed t ↦
         let q : w ≡ o = eqb-eq w o t in
@@ -70,7 +70,7 @@ module _ (m : Machine) (s : Sound m) (c w : ℕ) (p : List ℕ) (g : fit (m .ran
     | failed t ↦
         rw t ((unfold setting in stored-other (awaiting m (Client c)) w b p d (length-fit (m .ranges) w p g) (s .room) o (λ (q : o ≡ w). eqb-ne w o t (sym q))))
   ]
-  after-done f Nothing d = rw (eqb-false {w} {o} (λ (q : w ≡ o). let z : _≡_ {A = ℕ} 0 1 = cc in omega arith)) (unfold setting in refl)
+  after-done f Nothing d = rw (eqb-false (λ (q : w ≡ o). let z : _≡_ {A = ℕ} 0 1 = cc in omega arith)) (unfold setting in refl)
 
   next-granted : setting (done (awaiting m (Client c)) c (row w .act) p) o ≡ cond (eqb w 1) (zero-setting (row o) (row o .act)) (cond (eqb w o) p (setting m o))
   next-granted = elim (tested (eqb w 1)) [
@@ -86,7 +86,7 @@ module _ (m : Machine) (s : Sound m) (o a : ℕ) (e : row o .act ≡ Stores a) w
   next-stepped (gone c h f) = refl
   next-stepped (indicated c on h f) = refl
   next-stepped (confirmed c h f g) = refl
-  next-stepped (denied c w p h n l g) = let z : eqb n 1 ≡ false = eqb-false {n} {1} (λ (e : n ≡ 1). omega arith) in rw z
+  next-stepped (denied c w p h n l g) = let z : eqb n 1 ≡ false = eqb-false (λ (e : n ≡ 1). omega arith) in rw z
   next-stepped (granted c w p h g) = next-granted m s c w p (g .suits) o a e
 
 -- ---- sequences of calls

@@ -112,7 +112,7 @@ module _ (m : Machine) (c o : ℕ) (p : List ℕ) where
   ]
 
   not-one : (n : ℕ) → 2 ≤ n → eqb n 1 ≡ false
-  not-one n h = eqb-false {n} {1} (λ (e : n ≡ 1). omega arith)
+  not-one n h = eqb-false (λ (e : n ≡ 1). omega arith)
 
   answers-step : Heard m c → (n : ℕ) → Judged m c o p n → Stepped m (write c (o ∷ p)) (answers m c o p n)
   answers-step h n (against i l g) = rw (not-one i l) (denied c o p h i l g)
