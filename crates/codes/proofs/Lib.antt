@@ -1,2 +1,3 @@
+pub mod Widths
 pub mod Rule
 pub mod Once

@@ -7,15 +7,17 @@ use native.Mathlib.Omega.{arith}
 use lib.Dec.{eqb, leb}
 use lib.ListN.{length, getD}
 use Rattle.kinds.proofs.Tests.{leb-le, eqb-eq, and-l, and-r, all, all-at}
+use Rattle.codes.specs.declared.parameters.Parameter.the-variants.{Empty}
 use Rattle.codes.specs.declared.op_codes.Need.the-variants.{Never}
 use Rattle.codes.specs.declared.op_codes.Bound.the-variants.{Free}
 use Rattle.codes.specs.declared.op_codes.Act.{Act}
 use Rattle.codes.specs.declared.op_codes.Act.the-variants.{TakesControl, Resets, Starts, Halts, Stores, Nothing}
-use Rattle.codes.specs.OpCodes.{OpCode, at, table, row, size}
+use Rattle.codes.specs.OpCodes.{OpCode, at, table, row}
+use Rattle.codes.specs.Parameters.{size}
 
-pub row-rule : (f : OpCode → Bool) (o : ℕ) → f (at o [] Never Free [] Nothing) ≡ true → all f table ≡ true → f (row o) ≡ true
+pub row-rule : (f : OpCode → Bool) (o : ℕ) → f (at o Empty Never Free [] Nothing) ≡ true → all f table ≡ true → f (row o) ≡ true
 unfolding row
-row-rule f o e h = all-at f table (at o [] Never Free [] Nothing) h e o
+row-rule f o e h = all-at f table (at o Empty Never Free [] Nothing) h e o
 
 -- within a list the default does not matter
 pub any-default : {A : Type 0} (l : List A) (i : ℕ) (d e : A) → i < length l → getD l i d ≡ getD l i e
@@ -36,7 +38,7 @@ counted-at (r ∷ rs) n (suc i) d e h =
 
 pub row-op : (o : ℕ) → row o .op ≡ o
 unfolding row
-row-op o = let f : getD table o (at o [] Never Free [] Nothing) .op ≡ 0 + o = counted-at table 0 o (at o [] Never Free [] Nothing) (omega arith) refl in omega arith
+row-op o = let f : getD table o (at o Empty Never Free [] Nothing) .op ≡ 0 + o = counted-at table 0 o (at o Empty Never Free [] Nothing) (omega arith) refl in omega arith
 
 abbrev ten : OpCode → Bool
 ten r = leb (size (r .parameter)) 10

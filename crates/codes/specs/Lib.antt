@@ -1,2 +1,3 @@
+pub mod Parameters
 pub mod OpCodes
 pub mod Ranges

@@ -1,3 +1,4 @@
-// The tables of the control point: its op codes, and the ranges that bound their parameters.
+// The tables of the control point: its op codes, their parameters, and the ranges that bound them.
 pub mod op_codes;
+pub mod parameters;
 pub mod ranges;

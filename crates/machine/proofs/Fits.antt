@@ -10,7 +10,8 @@ use Rattle.kinds.proofs.Tests.{leb-le, eqb-eq, and-l, and-r}
 use Rattle.wire.specs.Octets.{number}
 use Rattle.codes.specs.declared.ranges.Ranges.{Ranges}
 use Rattle.codes.specs.Ranges.{allowed}
-use Rattle.codes.specs.OpCodes.{row, size}
+use Rattle.codes.specs.OpCodes.{row}
+use Rattle.codes.specs.Parameters.{size}
 use Rattle.codes.proofs.Rule.{size-most, none, quiet-row}
 use Rattle.machine.specs.Judging.{known-halt, fit}
 

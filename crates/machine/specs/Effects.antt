@@ -13,7 +13,8 @@ use Rattle.machine.specs.declared.machine.Who.the-variants.{Client}
 use Rattle.codes.specs.declared.op_codes.Act.{Act}
 use Rattle.codes.specs.declared.op_codes.Act.the-variants.{TakesControl, Resets, Starts, Halts, Stores, Nothing}
 use Rattle.machine.specs.declared.effects.Performed.{Performed}
-use Rattle.codes.specs.OpCodes.{row, size}
+use Rattle.codes.specs.OpCodes.{row}
+use Rattle.codes.specs.Parameters.{size}
 use Rattle.machine.specs.Octets.{boxed}
 use Rattle.machine.specs.Judging.{result}
 use Rattle.machine.specs.Machine.{held-by, going, storing, cleared}

@@ -18,7 +18,8 @@ use Rattle.codes.specs.declared.op_codes.Need.the-variants.{Always, Never, Bit}
 use Rattle.codes.specs.declared.op_codes.Act.{Act}
 use Rattle.codes.specs.declared.op_codes.Act.the-variants.{TakesControl, Resets, Starts, Halts, Stores, Nothing}
 use Rattle.codes.specs.Ranges.{allowed}
-use Rattle.codes.specs.OpCodes.{OpCode, size}
+use Rattle.codes.specs.OpCodes.{OpCode}
+use Rattle.codes.specs.Parameters.{size}
 use Rattle.machine.specs.Machine.{is, someone, without}
 
 -- "00, 01, 07, 08 are always supported; 02 to 06 need target bits 0 to 4, 09 to 12 need 5 to 14, 14 needs 16."

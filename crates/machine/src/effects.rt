@@ -13,6 +13,7 @@ use crate::octets::status;
 use crate::octets::stored;
 use codes::op_codes::Act;
 use codes::op_codes::row_of;
+use codes::parameters::octets;
 use wire::octets::u8_at;
 ghost use mathlib.Core.Path.{_≡_};
 ghost use mathlib.Core.Bool.{true};
@@ -122,8 +123,9 @@ pub fn setting(machine: Machine, op: u8) -> Octets
     ensures { λ r. ⌜ r ≡ boxed (Effects·setting machine op) ⌝ }
 {
     let row = row_of(op);
-    let count = row.0;
+    let parameter = row.0;
     let act = row.4;
+    let count = octets(parameter);
     let settings = machine.settings;
     let empty = none();
     match act {

@@ -8,6 +8,7 @@ use crate::machine::without;
 use codes::op_codes::Act;
 use codes::op_codes::Need;
 use codes::op_codes::row_of;
+use codes::parameters::octets;
 use codes::ranges::Ranges;
 use codes::ranges::allowed;
 use wire::feature::Feature;
@@ -78,10 +79,11 @@ fn fit(ranges: Ranges, op: u8, p: &[u8]) -> bool
     ensures { λ r. ⌜ r ≡ Judging·fit ranges (row op) (now (p .entry)) ⌝ }
 {
     let row = row_of(op);
-    let octets = row.0;
+    let parameter = row.0;
     let bound = row.2;
     let act = row.4;
-    if p.len() != octets as usize {
+    let wanted = octets(parameter);
+    if p.len() != wanted as usize {
         return false;
     }
     if !allowed(ranges, bound, p) {

@@ -18,7 +18,8 @@ use Rattle.machine.specs.declared.machine.Who.the-variants.{Nobody, Client}
 use Rattle.codes.specs.declared.op_codes.Act.{Act}
 use Rattle.codes.specs.declared.op_codes.Act.the-variants.{TakesControl, Resets, Starts, Halts, Stores, Nothing}
 use Rattle.codes.specs.Ranges.{in-order, allowed}
-use Rattle.codes.specs.OpCodes.{row, size}
+use Rattle.codes.specs.OpCodes.{row}
+use Rattle.codes.specs.Parameters.{size}
 use Rattle.machine.specs.Machine.{without, is-connected, fresh, awaiting, storing}
 use Rattle.machine.specs.Judging.{known-halt, fit}
 use Rattle.machine.specs.Effects.{done, setting}

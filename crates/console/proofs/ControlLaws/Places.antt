@@ -12,7 +12,8 @@ use Rattle.wire.specs.Octets.{placed}
 use Rattle.machine.specs.declared.machine.Machine.{Machine}
 use Rattle.codes.specs.declared.op_codes.Act.{Act}
 use Rattle.codes.specs.declared.op_codes.Act.the-variants.{TakesControl, Resets, Starts, Halts, Stores, Nothing}
-use Rattle.codes.specs.OpCodes.{OpCode, at, table, row, size}
+use Rattle.codes.specs.OpCodes.{OpCode, at, table, row}
+use Rattle.codes.specs.Parameters.{size}
 use Rattle.machine.specs.Machine.{storing}
 use Rattle.machine.specs.Effects.{part, setting}
 use Rattle.console.specs.Control.Laws.{zero-setting}

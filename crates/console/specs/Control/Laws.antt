@@ -14,7 +14,8 @@ use Rattle.machine.specs.declared.machine.Who.the-variants.{Nobody, Client}
 use Rattle.codes.specs.declared.op_codes.Act.{Act}
 use Rattle.codes.specs.declared.op_codes.Act.the-variants.{TakesControl, Resets, Starts, Halts, Stores, Nothing}
 use Rattle.codes.specs.Ranges.{allowed}
-use Rattle.codes.specs.OpCodes.{OpCode, row, size}
+use Rattle.codes.specs.OpCodes.{OpCode, row}
+use Rattle.codes.specs.Parameters.{size}
 use Rattle.machine.specs.Machine.{someone, is-connected, is-indicating}
 use Rattle.console.specs.Control.Replies.{Reply, refusal-of, response-of, status-of}
 use Rattle.machine.specs.Effects.{setting}

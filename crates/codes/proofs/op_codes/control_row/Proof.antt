@@ -5,6 +5,7 @@ use mathlib.Core.List.{[], map}
 use borrow.Author.Needs.{needs}
 use lib.ListN.{length, take, List·getD-map}
 use lib.Seq.{getD-take}
+use Rattle.codes.specs.declared.parameters.Parameter.the-variants.{Empty}
 use Rattle.codes.specs.declared.op_codes.Need.the-variants.{Never}
 use Rattle.codes.specs.declared.op_codes.Bound.the-variants.{Free}
 use Rattle.codes.specs.declared.op_codes.Act.the-variants.{Nothing}
@@ -16,7 +17,7 @@ use Rattle.codes.proofs.op_codes.control_row.Tie as tie
 returns : tie.Need-returns
 unfolding row
 returns c = let o = c .before .args .op in
-    let d = at o [] Never Free [] Nothing in
+    let d = at o Empty Never Free [] Nothing in
     let h : o < length (take 9 table) = search needs in
     any-default (map coded (take 9 table)) o _ (coded d) h ∙ List·getD-map coded (take 9 table) o d ∙ ap coded (getD-take 9 table o d (c .before .pre))
 

@@ -6,6 +6,7 @@ use native.Mathlib.Omega.{arith}
 use borrow.Author.Needs.{needs}
 use lib.ListN.{length, getD, drop, List·getD-map}
 use lib.Seq.{getD-drop}
+use Rattle.codes.specs.declared.parameters.Parameter.the-variants.{Empty}
 use Rattle.codes.specs.declared.op_codes.Need.the-variants.{Never}
 use Rattle.codes.specs.declared.op_codes.Bound.the-variants.{Free}
 use Rattle.codes.specs.declared.op_codes.Act.the-variants.{Nothing}
@@ -17,7 +18,7 @@ use Rattle.codes.proofs.op_codes.target_row.Tie as tie
 returns : tie.Need-returns
 unfolding row
 returns c = let o = c .before .args .op in
-    let d = at o [] Never Free [] Nothing in
+    let d = at o Empty Never Free [] Nothing in
     let h : o - 9 < length (drop 9 table) = search needs in
     let e : 9 + (o - 9) ≡ o = omega (arith, c .before .pre .0) in
     any-default (map coded (drop 9 table)) (o - 9) _ (coded d) h ∙ List·getD-map coded (drop 9 table) (o - 9) d ∙ ap coded (getD-drop 9 table (o - 9) d)

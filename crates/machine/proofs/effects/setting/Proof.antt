@@ -5,7 +5,8 @@ use native.Mathlib.Omega.{arith}
 use borrow.Author.Needs.{needs}
 use Rattle.codes.specs.declared.op_codes.Row
 use Rattle.codes.specs.declared.op_codes.Act.{Act}
-use Rattle.codes.specs.OpCodes.{row, size}
+use Rattle.codes.specs.OpCodes.{row}
+use Rattle.codes.specs.Parameters.{size}
 use Rattle.machine.specs.Octets.{boxed}
 use Rattle.machine.specs.Effects.{part, setting}
 use Rattle.codes.proofs.Rule.{place-fits, size-most}
@@ -15,13 +16,13 @@ use Rattle.machine.proofs.effects.setting.Tie as tie
 -- the columns of the row that the code found are those of the op code
 module _ (c : tie.After-settings) where
   abbrev found : tie.After-row-of
-  found = c .before
+  found = c .before .before
 
   abbrev op : ℕ
   op = found .before .args .op
 
-  octets-so : found .row-of .result .0 ≡ size (row op .parameter)
-  octets-so = ap (λ (r : Row.Row). r .0) (found .row-of .ensures)
+  octets-so : c .before .octets .result ≡ size (row op .parameter)
+  octets-so = c .before .octets .ensures ∙ ap (λ (r : Row.Row). size (r .0)) (found .row-of .ensures)
 
   act-so : found .row-of .result .4 ≡ row op .act
   act-so = ap (λ (r : Row.Row). r .4) (found .row-of .ensures)
@@ -45,6 +46,7 @@ returns-5 c =
 
 pub setting-spec : {M : Type 1} → statement M
 setting-spec = tie.close (tie.spec (λ c κs. search needs)
+    (λ c κs. search needs)
     (λ c κs. search needs)
     (λ c. search needs)
     (λ c. search needs)
