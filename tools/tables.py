@@ -122,10 +122,17 @@ def parts(kind):
     print()
 
 
-def parameter_octets(name):
-    """"one u16 for each zone"; the octets of the widths that a parameter names."""
+def parameter(name):
+    """"one u16 for each zone"; the widths that a parameter names."""
     zones = {"two": 2, "three": 3, "five": 5}.get(name.split()[0], 1)
-    return zones * sum(OCTETS[word.strip(",")] for word in name.split() if word.strip(",") in OCTETS)
+    return zones * [word.strip(",") for word in name.split() if word.strip(",") in OCTETS]
+
+
+def bare(name):
+    """A name without its widths."""
+    for width in OCTETS:
+        name = name.replace(", a %s each" % width, "").replace(" " + width, "")
+    return name
 
 
 def target_bit(op):
@@ -148,9 +155,10 @@ def status(op, octets):
 def op_codes():
     rows = []
     for op, name in enumerate(words(OP_CODES, ";")):
-        octets = parameter_octets(name)
-        rows.append(("%02X" % op, name, octets, RANGES.get(op, "none"), target_bit(op), "80 %02X and the result" % op, status(op, octets)))
-    table(["op code", "name and parameter", "octets", "range", "target bit", "response", "status where it succeeds"], rows)
+        widths = parameter(name)
+        octets = sum(OCTETS[width] for width in widths)
+        rows.append(("%02X" % op, bare(name), ", ".join(widths) or "none", octets, RANGES.get(op, "none"), target_bit(op), "80 %02X and the result" % op, status(op, octets)))
+    table(["op code", "name", "parameter", "octets", "range", "target bit", "response", "status where it succeeds"], rows)
 
 
 def control():

@@ -8,6 +8,11 @@ use codes::op_codes::Bound;
 use codes::op_codes::Need;
 use codes::op_codes::Row;
 use codes::op_codes::row_of;
+use codes::parameters::Parameter;
+use codes::parameters::count;
+use codes::parameters::octets;
+use codes::parameters::width_of;
+use reference::words::put_width;
 use text::text::put_bytes;
 use text::text::put_decimal;
 use text::text::put_hex;
@@ -15,12 +20,12 @@ use text::text::put_hex;
 // One more than the last op code of the table.
 const OP_CODES: u8 = 21;
 
-// What an op code does, and its parameter.
+// What an op code is for.
 fn put_name(out: &mut [u8], at: usize, op: u8) -> usize {
     put_word(
         out,
         at,
-        b"request control\nreset\nspeed u16\ninclination s16\nresistance u8\npower s16\nheart rate u8\nstart or resume\nstop (1) or pause (2) u8\nenergy u16\nsteps u16\nstrides u16\ndistance u24\ntime u16\ntwo zones, a u16 each\nthree zones, a u16 each\nfive zones, a u16 each\nwind s16, grade s16, rolling u8, drag u8\nwheel u16\nspin down\ncadence u16\n",
+        b"request control\nreset\nspeed\ninclination\nresistance\npower\nheart rate\nstart or resume\nstop (1) or pause (2)\nenergy\nsteps\nstrides\ndistance\ntime\ntwo zones\nthree zones\nfive zones\nwind, grade, rolling, drag\nwheel\nspin down\ncadence\n",
         op,
     )
 }
@@ -65,12 +70,42 @@ fn put_status(out: &mut [u8], at: usize, octets: u8, status: u8) -> usize {
     put_bytes(out, next, b" and the parameter")
 }
 
-// The octets of the parameter, its range, and the target bit.
+// The width of number i of a parameter, behind a comma where it is not the first.
+fn put_number(out: &mut [u8], at: usize, parameter: Parameter, i: u8) -> usize {
+    let width = width_of(parameter, i);
+    if i == 0 {
+        return put_width(out, at, width);
+    }
+    let next = put_bytes(out, at, b", ");
+    put_width(out, next, width)
+}
+
+// The widths of a parameter's numbers.
+fn put_parameter(out: &mut [u8], at: usize, parameter: Parameter) -> usize {
+    let numbers = count(parameter);
+    if numbers == 0 {
+        return put_bytes(out, at, b"none");
+    }
+    let mut next = at;
+    for i in 0..numbers {
+        next = put_number(out, next, parameter, i);
+    }
+    next
+}
+
+// The parameter and its octets.
+fn put_octets(out: &mut [u8], at: usize, parameter: Parameter) -> usize {
+    let next = put_parameter(out, at, parameter);
+    let after = put_bytes(out, next, b" | ");
+    put_decimal(out, after, octets(parameter) as u32)
+}
+
+// The parameter, its octets, its range, and the target bit.
 fn put_needs(out: &mut [u8], at: usize, row: Row) -> usize {
-    let octets = row.0 as u32;
+    let parameter = row.0;
     let need = row.1;
     let bound = row.2;
-    let a = put_decimal(out, at, octets);
+    let a = put_octets(out, at, parameter);
     let b = put_bytes(out, a, b" | ");
     let c = put_range(out, b, bound);
     let d = put_bytes(out, c, b" | ");
@@ -79,15 +114,16 @@ fn put_needs(out: &mut [u8], at: usize, row: Row) -> usize {
 
 // The response and the status octets.
 fn put_answers(out: &mut [u8], at: usize, op: u8, row: Row) -> usize {
-    let octets = row.0;
+    let parameter = row.0;
     let status = row.3;
+    let length = octets(parameter);
     let a = put_bytes(out, at, b" | 80 ");
     let b = put_hex(out, a, op);
     let c = put_bytes(out, b, b" and the result | ");
-    put_status(out, c, octets, status)
+    put_status(out, c, length, status)
 }
 
-// The first cells: the op code, what it does, its parameter.
+// The first cells: the op code, and what it is for.
 fn put_op(out: &mut [u8], at: usize, op: u8) -> usize {
     let a = put_bytes(out, at, b"| ");
     let b = put_hex(out, a, op);
@@ -108,7 +144,7 @@ fn put_op_codes(out: &mut [u8], at: usize) -> usize {
     let mut next = put_bytes(
         out,
         at,
-        b"## Op codes\n\n| op code | name and parameter | octets | range | target bit | response | status where it succeeds |\n|---|---|---|---|---|---|---|\n",
+        b"## Op codes\n\n| op code | name | parameter | octets | range | target bit | response | status where it succeeds |\n|---|---|---|---|---|---|---|---|\n",
     );
     for op in 0..OP_CODES {
         next = put_op_code(out, next, op);

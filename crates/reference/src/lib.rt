@@ -1,3 +1,3 @@
 // The reference's pages: the table of each kind, printed from the rows that reading and splitting run on.
 pub mod tables;
-mod words;
+pub mod words;

@@ -13,7 +13,8 @@ use text::text::put_bytes;
 ghost use Rattle.text.specs.Text.{Wrote, ascii};
 ghost use Rattle.reference.specs.Tables.{width-word, unit-word, shared-word, group-word};
 
-pub(crate) fn put_width(out: &mut [u8], at: usize, width: Width) -> usize
+// The name of a width.
+pub fn put_width(out: &mut [u8], at: usize, width: Width) -> usize
     ensures { λ r. ⌜ Wrote (now (out .entry)) at (ascii (width-word width)) (now (out .exit)) r ⌝ }
 {
     match width {
