@@ -1,19 +1,19 @@
 // A machine under test, and a client, number 0, that writes to it and confirms each response.
-use machine::machine::Machine;
-use machine::octets::Octets;
 use codes::ranges::HeartRateRange;
 use codes::ranges::Ranges;
 use codes::ranges::SignedRange;
 use codes::ranges::SpeedRange;
-use output::first;
-use output::print;
-use output::print_octets;
-use record::octets::u8_at;
 use console::control::confirm;
 use console::control::connect;
 use console::control::indicate;
 use console::control::open;
 use console::control::write;
+use machine::machine::Machine;
+use machine::octets::Octets;
+use output::first;
+use output::print;
+use output::print_octets;
+use record::octets::u8_at;
 
 // Every named bit of the features and of the target settings.
 const FEATURE: [u8; 8] = [0xFF, 0xFF, 0x01, 0x00, 0xFF, 0xFF, 0x01, 0x00];

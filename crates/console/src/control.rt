@@ -1,4 +1,6 @@
 // The control point: a machine is opened, clients connect, write op codes and confirm responses. A state goes in and comes back by value.
+use codes::ranges::Ranges;
+use codes::ranges::in_order;
 use machine::effects::perform;
 use machine::effects::setting as stored_setting;
 use machine::machine::Machine;
@@ -13,8 +15,6 @@ use machine::machine::someone;
 use machine::machine::without;
 use machine::octets::Octets;
 use machine::octets::none;
-use codes::ranges::Ranges;
-use codes::ranges::in_order;
 use wire::feature::Feature;
 use wire::feature::FeatureAnswer;
 use wire::refusal::Refusal;

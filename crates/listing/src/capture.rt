@@ -2,13 +2,13 @@
 use crate::lines::put_record;
 use crate::lines::put_refused;
 use kinds::groups::is_known;
-use wire::octets::u16_at;
-use wire::refusal::Refusal;
 use service::collector::Collected;
 use service::collector::Collection;
 use service::collector::Told;
 use service::collector::collect;
 use service::collector::open;
+use wire::octets::u16_at;
+use wire::refusal::Refusal;
 ghost use mathlib.Core.Path.{_≡_};
 ghost use Prim.Native.Nat.{min};
 ghost use lib.ListN.{length, drop};

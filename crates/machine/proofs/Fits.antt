@@ -37,4 +37,3 @@ silent ranges o p g z = from (row o .status) (quiet-row o) z
     from : (s : List ℕ) → cond (none s) (eqb (size (row o .parameter)) 0) (eqb (length s) 1 && leb 1 (getD s 0 0)) ≡ true → getD s 0 0 ≡ 0 → [] ≡ s ++ p
     from [] h z = empty p (length-fit ranges o p g ∙ eqb-eq (size (row o .parameter)) 0 h)
     from (x ∷ s) h z = absurd (let k : 1 ≤ x = leb-le 1 x (and-r (eqb (length (x ∷ s)) 1) (leb 1 x) h) in omega arith)
-

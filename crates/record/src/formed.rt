@@ -1,11 +1,11 @@
 // Whether a record is well formed.
+use crate::numbers::number_at;
+use crate::numbers::numbers_of;
+use crate::record::Record;
 use kinds::groups::has;
 use kinds::groups::is_known;
 use kinds::groups::listed;
 use kinds::layout;
-use crate::numbers::number_at;
-use crate::numbers::numbers_of;
-use crate::record::Record;
 ghost use mathlib.Core.Path.{_≡_};
 ghost use mathlib.Core.Bool.{cond};
 ghost use mathlib.Core.List.{[], _∷_};

@@ -4,6 +4,7 @@ pub use kinds::layout;
 pub use wire::feature;
 pub use wire::octets;
 pub use wire::refusal;
+
 pub mod formed;
 pub mod notification;
 pub mod numbers;

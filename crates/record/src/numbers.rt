@@ -1,7 +1,4 @@
 // Records as wire numbers, one unsigned number for each field, and back.
-use kinds::layout;
-use wire::octets::signed;
-use wire::octets::unsigned;
 use crate::record::Climb;
 use crate::record::Energy;
 use crate::record::Force;
@@ -12,6 +9,9 @@ use crate::record::Record;
 use crate::record::Slope;
 use crate::record::StepRates;
 use crate::record::Stroke;
+use kinds::layout;
+use wire::octets::signed;
+use wire::octets::unsigned;
 ghost use mathlib.Core.Path.{_≡_};
 ghost use Prim.Native.Nat.{_%_, _^_, _<_};
 ghost use lib.ListN.{getD};

@@ -1,5 +1,7 @@
 // Splitting a record into parts, each a notification that fits a payload.
 use crate::formed::formed;
+use crate::numbers::numbers_of;
+use crate::record::Record;
 use kinds::groups::BITS;
 use kinds::groups::flags_length;
 use kinds::groups::group_length;
@@ -11,11 +13,9 @@ use kinds::layout::Row;
 use kinds::layout::octets;
 use kinds::layout::row_count;
 use kinds::layout::row_of;
-use crate::numbers::numbers_of;
 use wire::octets::put_u16;
 use wire::octets::put_u24;
 use wire::octets::put_value;
-use crate::record::Record;
 use wire::refusal::Refusal;
 ghost use mathlib.Core.Path.{_≡_};
 ghost use mathlib.Core.Bool.{cond};
