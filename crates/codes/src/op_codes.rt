@@ -45,6 +45,14 @@ const U24: Parameter = Parameter::One(Width::U24);
 
 const S16: Parameter = Parameter::One(Width::S16);
 
+const TWO_ZONES: Parameter = Parameter::TwoZones;
+
+const THREE_ZONES: Parameter = Parameter::ThreeZones;
+
+const FIVE_ZONES: Parameter = Parameter::FiveZones;
+
+const SIMULATION: Parameter = Parameter::Simulation;
+
 const ALWAYS: Need = Need::Always;
 
 const FREE: Bound = Bound::Free;
@@ -71,34 +79,10 @@ const TARGETS: [Row; 12] = [
     Row(U16, Need::Bit(7), FREE, 0x0c, Act::Stores(12)),
     Row(U24, Need::Bit(8), FREE, 0x0d, Act::Stores(14)),
     Row(U16, Need::Bit(9), FREE, 0x0e, Act::Stores(17)),
-    Row(
-        Parameter::TwoZones,
-        Need::Bit(10),
-        FREE,
-        0x0f,
-        Act::Stores(19),
-    ),
-    Row(
-        Parameter::ThreeZones,
-        Need::Bit(11),
-        FREE,
-        0x10,
-        Act::Stores(23),
-    ),
-    Row(
-        Parameter::FiveZones,
-        Need::Bit(12),
-        FREE,
-        0x11,
-        Act::Stores(29),
-    ),
-    Row(
-        Parameter::Simulation,
-        Need::Bit(13),
-        FREE,
-        0x12,
-        Act::Stores(39),
-    ),
+    Row(TWO_ZONES, Need::Bit(10), FREE, 0x0f, Act::Stores(19)),
+    Row(THREE_ZONES, Need::Bit(11), FREE, 0x10, Act::Stores(23)),
+    Row(FIVE_ZONES, Need::Bit(12), FREE, 0x11, Act::Stores(29)),
+    Row(SIMULATION, Need::Bit(13), FREE, 0x12, Act::Stores(39)),
     Row(U16, Need::Bit(14), FREE, 0x13, Act::Stores(45)),
     Row(EMPTY, Need::Never, FREE, 0, Act::Nothing),
     Row(U16, Need::Bit(16), FREE, 0x15, Act::Stores(47)),
