@@ -31,44 +31,56 @@ five zones, a u16 each; wind s16, grade s16, rolling u8, drag u8; wheel u16; spi
 # "Ranges .. exist for speed u16, inclination s16, resistance s16, power s16, heart rate u8."
 RANGES = {0x02: "speed", 0x03: "inclination", 0x04: "resistance", 0x05: "power", 0x06: "heart rate"}
 
-CLIENTS = "connect, disconnect, indications, write, confirm"
-READING = "reading a notification, collecting a notification, splitting called from C"
 REFUSALS = [
-    (10, "client above 3", CLIENTS),
-    (11, "kind not 1 to 6", "splitting, opening a collection, reading a notification, listing a capture"),
-    (12, "payload not 20 to 512", "splitting"),
-    (13, "record not well formed", "splitting"),
-    (14, "lent output shorter than this answer", "splitting, listing a capture"),
-    (15, "part number not below the number of parts", "splitting"),
-    (16, "some range has least above greatest", "opening a machine"),
-    (17, "client not connected; for connect, already connected", CLIENTS),
-    (18, "write of no octets", "write"),
-    (19, "indications off (ATT FD)", "write"),
-    (20, "a response awaits confirmation (ATT FE)", "write"),
-    (21, "confirm by a client to whom no response is due", "confirm"),
-    (22, "Feature value not 8 octets", "opening a machine, reading a Feature value"),
-    (30, "notification above 512 octets", READING),
-    (31, "shorter than its flags", READING),
-    (32, "shorter than flags and named groups", READING),
-    (33, "fixed: a group not in the told set", "collecting a notification"),
-    (34, "fixed: incomplete at the last part", "collecting a notification"),
-    (35, "told set has a bit not listed for the kind", "opening a collection"),
-    (36, "capture above 65,536 octets", "listing a capture"),
-    (37, "capture ends inside a length or notification", "listing a capture"),
+    (10, "client above 3"),
+    (11, "kind not 1 to 6"),
+    (12, "payload not 20 to 512"),
+    (13, "record not well formed"),
+    (14, "lent output shorter than this answer"),
+    (15, "part number not below the number of parts"),
+    (16, "some range has least above greatest"),
+    (17, "client not connected; for connect, already connected"),
+    (18, "write of no octets"),
+    (19, "indications off (ATT FD)"),
+    (20, "a response awaits confirmation (ATT FE)"),
+    (21, "confirm by a client to whom no response is due"),
+    (22, "Feature value not 8 octets"),
+    (30, "notification above 512 octets"),
+    (31, "shorter than its flags"),
+    (32, "shorter than flags and named groups"),
+    (33, "fixed: a group not in the told set"),
+    (34, "fixed: incomplete at the last part"),
+    (35, "told set has a bit not listed for the kind"),
+    (36, "capture above 65,536 octets"),
+    (37, "capture ends inside a length or notification"),
 ]
 
-# "Where several apply, the splitter's order is 11, 12, 13, 15, 14; .."; "30 to 32 are judged on it just before 13"
+# "Where several apply, the splitter's order is ..", each call with its refusals in order
 ORDERS = [
-    ("splitting", "11, 12, 13, 15, 14"),
-    ("splitting, called from C", "11, 12, 30, 31, 32, 13, 15, 14"),
-    ("opening a collection", "11, 35"),
-    ("collecting a notification", "30, 31, 32, 33, 34"),
-    ("opening a machine", "22, 16"),
-    ("connect, disconnect, indications", "10, 17"),
-    ("write", "10, 17, 18, 19, 20, then the results"),
-    ("confirm", "10, 17, 21"),
-    ("listing a capture", "36, 11, then 37 where met"),
+    ("splitting", [11, 12, 13, 15, 14]),
+    # "30 to 32 are judged on it just before 13"
+    ("splitting called from C", [11, 12, 30, 31, 32, 13, 15, 14]),
+    # "a notification 30 to 34 upward", less 33 and 34, which are of a told set; its kind first, as everywhere
+    ("reading a notification", [11, 30, 31, 32]),
+    ("reading a Feature value", [22]),
+    ("opening a collection", [11, 35]),
+    ("collecting a notification", [30, 31, 32, 33, 34]),
+    ("opening a machine", [22, 16]),
+    # "connect, disconnect and indications 10, 17"
+    ("connect", [10, 17]),
+    ("disconnect", [10, 17]),
+    ("indications", [10, 17]),
+    ("write", [10, 17, 18, 19, 20]),
+    ("confirm", [10, 17, 21]),
+    # "The library call itself refuses only with 14"
+    ("listing a capture", [14]),
+    # "36, then 11, are judged first and end the listing, 37 ends it where met"; "it collects openly", and a notification that is there whole "prints
+    # `refused=` and goes on": 30 to 32
+    ("a line of a listing", [36, 11, 37, 30, 31, 32]),
 ]
+
+# "A write is judged in this order: 10, 17, 18, 19, 20; unsupported op code, result 02; .."
+ENDS = {"write": ", then the results"}
 
 # "A write is judged in this order: ..", after the refusals
 RESULTS = [
@@ -161,6 +173,10 @@ def op_codes():
     table(["op code", "name", "parameter", "octets", "range", "target bit", "response", "status where it succeeds"], rows)
 
 
+def calls_that_give(number):
+    return ", ".join(call for call, order in ORDERS if number in order)
+
+
 def control():
     print("# Control point\n\n## Feature value\n")
     print("8 octets: the features, then the target settings, each a u32. Other bits are written 0 and ignored when read.\n")
@@ -172,9 +188,9 @@ def control():
     print("\n## Results\n\nThe first that applies:\n")
     table(["result", "given when"], RESULTS)
     print("\n## Refusal numbers\n\nA refusal writes no lent octet. 10 to 22 leave the state unchanged.\n")
-    table(["no.", "given exactly when", "by"], REFUSALS)
+    table(["no.", "given exactly when", "by"], [(number, when, calls_that_give(number)) for number, when in REFUSALS])
     print("\nWhere several apply, the first of each call's order is given:\n")
-    table(["call", "order"], ORDERS)
+    table(["call", "order"], [(call, ", ".join(str(number) for number in order) + ENDS.get(call, "")) for call, order in ORDERS])
 
 
 if __name__ == "__main__":

@@ -2,6 +2,10 @@
 use crate::feature::put_feature;
 use crate::orders::put_orders;
 use crate::refusals::put_refusals;
+use crate::words::put_bar;
+use crate::words::put_close;
+use crate::words::put_comma;
+use crate::words::put_open;
 use crate::words::put_word;
 use codes::op_codes::Bound;
 use codes::op_codes::Need;
@@ -19,6 +23,8 @@ use text::text::put_hex;
 
 // One more than the last op code of the table.
 const OP_CODES: u8 = 21;
+
+const RESULTS: u8 = 5;
 
 // What an op code is for.
 fn put_name(out: &mut [u8], at: usize, op: u8) -> usize {
@@ -70,14 +76,10 @@ fn put_status(out: &mut [u8], at: usize, octets: u8, status: u8) -> usize {
     put_bytes(out, next, b" and the parameter")
 }
 
-// The width of number i of a parameter, behind a comma where it is not the first.
-fn put_number(out: &mut [u8], at: usize, parameter: Parameter, i: u8) -> usize {
-    let width = width_of(parameter, i);
-    if i == 0 {
-        return put_width(out, at, width);
-    }
-    let next = put_bytes(out, at, b", ");
-    put_width(out, next, width)
+// The width of number i of a parameter, behind those that stand from a place on.
+fn put_number(out: &mut [u8], from: usize, at: usize, parameter: Parameter, i: u8) -> usize {
+    let next = put_comma(out, from, at);
+    put_width(out, next, width_of(parameter, i))
 }
 
 // The widths of a parameter's numbers.
@@ -88,7 +90,7 @@ fn put_parameter(out: &mut [u8], at: usize, parameter: Parameter) -> usize {
     }
     let mut next = at;
     for i in 0..numbers {
-        next = put_number(out, next, parameter, i);
+        next = put_number(out, at, next, parameter, i);
     }
     next
 }
@@ -96,7 +98,7 @@ fn put_parameter(out: &mut [u8], at: usize, parameter: Parameter) -> usize {
 // The parameter and its octets.
 fn put_octets(out: &mut [u8], at: usize, parameter: Parameter) -> usize {
     let next = put_parameter(out, at, parameter);
-    let after = put_bytes(out, next, b" | ");
+    let after = put_bar(out, next);
     put_decimal(out, after, octets(parameter) as u32)
 }
 
@@ -106,9 +108,9 @@ fn put_needs(out: &mut [u8], at: usize, row: Row) -> usize {
     let need = row.1;
     let bound = row.2;
     let a = put_octets(out, at, parameter);
-    let b = put_bytes(out, a, b" | ");
+    let b = put_bar(out, a);
     let c = put_range(out, b, bound);
-    let d = put_bytes(out, c, b" | ");
+    let d = put_bar(out, c);
     put_need(out, d, need)
 }
 
@@ -125,11 +127,11 @@ fn put_answers(out: &mut [u8], at: usize, op: u8, row: Row) -> usize {
 
 // The first cells: the op code, and what it is for.
 fn put_op(out: &mut [u8], at: usize, op: u8) -> usize {
-    let a = put_bytes(out, at, b"| ");
+    let a = put_open(out, at);
     let b = put_hex(out, a, op);
-    let c = put_bytes(out, b, b" | ");
+    let c = put_bar(out, b);
     let d = put_name(out, c, op);
-    put_bytes(out, d, b" | ")
+    put_bar(out, d)
 }
 
 fn put_op_code(out: &mut [u8], at: usize, op: u8) -> usize {
@@ -137,56 +139,51 @@ fn put_op_code(out: &mut [u8], at: usize, op: u8) -> usize {
     let a = put_op(out, at, op);
     let b = put_needs(out, a, row);
     let c = put_answers(out, b, op, row);
-    put_bytes(out, c, b" |\n")
+    put_close(out, c)
 }
 
 fn put_op_codes(out: &mut [u8], at: usize) -> usize {
     let mut next = put_bytes(
         out,
         at,
-        b"## Op codes\n\n| op code | name | parameter | octets | range | target bit | response | status where it succeeds |\n|---|---|---|---|---|---|---|---|\n",
+        b"\n## Op codes\n\n| op code | name | parameter | octets | range | target bit | response | status where it succeeds |\n|---|---|---|---|---|---|---|---|\n",
     );
     for op in 0..OP_CODES {
         next = put_op_code(out, next, op);
     }
-    put_bytes(out, next, b"\n")
+    next
 }
 
 // The line of a result, with when it is given, one of some words.
 fn put_result(out: &mut [u8], at: usize, result: u8, which: u8) -> usize {
-    let a = put_bytes(out, at, b"| ");
+    let a = put_open(out, at);
     let b = put_hex(out, a, result);
-    let c = put_bytes(out, b, b" | ");
+    let c = put_bar(out, b);
     let d = put_word(
         out,
         c,
         b"the op code is not supported\nthe client does not hold control (but for 00)\nwrong length, a value outside its range, or 08 with neither 1 nor 2\n00 finds another holder, 07 finds running, 08 with 1 finds stopped, or 08 with 2 finds anything but running\nelse: success\n",
         which,
     );
-    put_bytes(out, d, b" |\n")
+    put_close(out, d)
 }
 
 // The results in the order in which they are judged: each is what is given where nothing before it is amiss.
-fn put_result_rows(out: &mut [u8], at: usize) -> usize {
-    let a = put_result(out, at, first_result(false, false, false, true), 0);
-    let b = put_result(out, a, first_result(true, false, false, true), 1);
-    let c = put_result(out, b, first_result(true, true, false, true), 2);
-    let d = put_result(out, c, first_result(true, true, true, true), 3);
-    put_result(out, d, first_result(true, true, true, false), 4)
-}
-
 fn put_results(out: &mut [u8], at: usize) -> usize {
-    let a = put_bytes(
+    let mut next = put_bytes(
         out,
         at,
-        b"## Results\n\nThe first that applies:\n\n| result | given when |\n|---|---|\n",
+        b"\n## Results\n\nThe first that applies:\n\n| result | given when |\n|---|---|\n",
     );
-    let b = put_result_rows(out, a);
-    put_bytes(out, b, b"\n")
+    for i in 0..RESULTS {
+        let result = first_result(0 < i, 1 < i, 2 < i, i < 4);
+        next = put_result(out, next, result, i);
+    }
+    next
 }
 
 pub(crate) fn put_control(out: &mut [u8], at: usize) -> usize {
-    let a = put_bytes(out, at, b"# Control point\n\n");
+    let a = put_bytes(out, at, b"# Control point\n");
     let b = put_feature(out, a);
     let c = put_op_codes(out, b);
     let d = put_results(out, c);

@@ -1,4 +1,7 @@
 // The two words of the Feature value.
+use crate::words::put_bar;
+use crate::words::put_close;
+use crate::words::put_open;
 use crate::words::put_word;
 use record::feature::Feature;
 use text::text::put_bytes;
@@ -6,11 +9,11 @@ use text::text::put_decimal;
 
 // The line of a bit, with its name, one of some.
 fn put_bit(out: &mut [u8], at: usize, bit: u8, names: &[u8], which: u8) -> usize {
-    let a = put_bytes(out, at, b"| ");
+    let a = put_open(out, at);
     let b = put_decimal(out, a, bit as u32);
-    let c = put_bytes(out, b, b" | ");
+    let c = put_bar(out, b);
     let d = put_word(out, c, names, which);
-    put_bytes(out, d, b" |\n")
+    put_close(out, d)
 }
 
 // The lines of a word's bits.
@@ -36,7 +39,7 @@ fn put_targets(out: &mut [u8], at: usize) -> usize {
     let next = put_bytes(
         out,
         at,
-        b"| bit of the target settings | name |\n|---|---|\n",
+        b"\n| bit of the target settings | name |\n|---|---|\n",
     );
     put_bits(
         out,
@@ -50,10 +53,8 @@ pub(crate) fn put_feature(out: &mut [u8], at: usize) -> usize {
     let a = put_bytes(
         out,
         at,
-        b"## Feature value\n\n8 octets: the features, then the target settings, each a u32. Other bits are written 0 and ignored when read.\n\n",
+        b"\n## Feature value\n\n8 octets: the features, then the target settings, each a u32. Other bits are written 0 and ignored when read.\n\n",
     );
     let b = put_features(out, a);
-    let c = put_bytes(out, b, b"\n");
-    let d = put_targets(out, c);
-    put_bytes(out, d, b"\n")
+    put_targets(out, b)
 }

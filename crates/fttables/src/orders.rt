@@ -1,10 +1,56 @@
-// The order of each call's refusals.
+// The order of each call's refusals: what the call answers, step by step.
+use crate::calls::CALLS;
+use crate::calls::STEPS;
+use crate::calls::WRITE;
+use crate::calls::answer;
+use crate::calls::put_call;
+use crate::words::put_bar;
+use crate::words::put_close;
+use crate::words::put_comma;
+use crate::words::put_open;
 use text::text::put_bytes;
+use text::text::put_decimal;
 
+// The numbers that a call answers.
+fn put_numbers(out: &mut [u8], at: usize, call: u8) -> usize {
+    let mut next = at;
+    for step in 0..STEPS {
+        let number = answer(call, step);
+        if number != 0 {
+            next = put_comma(out, at, next);
+            next = put_decimal(out, next, number as u32);
+        }
+    }
+    next
+}
+
+// What a write gives where it is not refused.
+fn put_results(out: &mut [u8], at: usize, call: u8) -> usize {
+    if call == WRITE {
+        return put_bytes(out, at, b", then the results");
+    }
+    at
+}
+
+// The line of a call.
+fn put_order(out: &mut [u8], at: usize, call: u8) -> usize {
+    let a = put_open(out, at);
+    let b = put_call(out, a, call);
+    let c = put_bar(out, b);
+    let d = put_numbers(out, c, call);
+    let e = put_results(out, d, call);
+    put_close(out, e)
+}
+
+// The table of the calls.
 pub(crate) fn put_orders(out: &mut [u8], at: usize) -> usize {
-    put_bytes(
+    let mut next = put_bytes(
         out,
         at,
-        b"\nWhere several apply, the first of each call's order is given:\n\n| call | order |\n|---|---|\n| splitting | 11, 12, 13, 15, 14 |\n| splitting, called from C | 11, 12, 30, 31, 32, 13, 15, 14 |\n| opening a collection | 11, 35 |\n| collecting a notification | 30, 31, 32, 33, 34 |\n| opening a machine | 22, 16 |\n| connect, disconnect, indications | 10, 17 |\n| write | 10, 17, 18, 19, 20, then the results |\n| confirm | 10, 17, 21 |\n| listing a capture | 36, 11, then 37 where met |\n",
-    )
+        b"\nWhere several apply, the first of each call's order is given:\n\n| call | order |\n|---|---|\n",
+    );
+    for call in 0..CALLS {
+        next = put_order(out, next, call);
+    }
+    next
 }

@@ -1,4 +1,7 @@
 // The parts of a record of each kind with all its groups, as the splitter cuts them.
+use crate::words::put_bar;
+use crate::words::put_close;
+use crate::words::put_open;
 use output::first;
 use record::groups::BITS;
 use record::groups::flags_length;
@@ -10,6 +13,7 @@ use record::notification::part_of;
 use record::split::LEAST_PAYLOAD;
 use record::split::SplitAnswer;
 use record::split::split_numbers;
+use text::text::LF;
 use text::text::put_byte;
 use text::text::put_bytes;
 use text::text::put_decimal;
@@ -73,7 +77,7 @@ fn length_of(octets: &[u8]) -> u32 {
 
 // A part's number and flags.
 fn put_flags(out: &mut [u8], at: usize, part: u8, flags: &[u8]) -> usize {
-    let a = put_bytes(out, at, b"| ");
+    let a = put_open(out, at);
     let b = put_decimal(out, a, part as u32);
     let c = put_bytes(out, b, b" |");
     put_octets(out, c, flags)
@@ -82,11 +86,11 @@ fn put_flags(out: &mut [u8], at: usize, part: u8, flags: &[u8]) -> usize {
 // The line of a part: its number, flags, octets and bits.
 fn put_row(out: &mut [u8], at: usize, kind: u8, part: u8, octets: &[u8]) -> usize {
     let a = put_flags(out, at, part, first(octets, flags_length(kind)));
-    let b = put_bytes(out, a, b" | ");
+    let b = put_bar(out, a);
     let c = put_decimal(out, b, length_of(octets));
     let d = put_bytes(out, c, b" |");
     let e = put_groups(out, d, kind, octets);
-    put_bytes(out, e, b" |\n")
+    put_close(out, e)
 }
 
 // The line of a part with all groups of the kind; nothing where there is no such part.
@@ -117,5 +121,5 @@ pub(crate) fn put_parts(out: &mut [u8], at: usize, kind: u8) -> usize {
     for part in 0..MOST_PARTS {
         next = put_part(out, next, kind, part);
     }
-    put_bytes(out, next, b"\n")
+    put_byte(out, next, LF)
 }

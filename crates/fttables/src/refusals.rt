@@ -1,4 +1,11 @@
 // The refusal numbers, with when each is given and by which calls.
+use crate::calls::CALLS;
+use crate::calls::gives;
+use crate::calls::put_call;
+use crate::words::put_bar;
+use crate::words::put_close;
+use crate::words::put_comma;
+use crate::words::put_open;
 use crate::words::put_word;
 use record::refusal::Refusal;
 use text::text::put_bytes;
@@ -43,33 +50,37 @@ fn put_when(out: &mut [u8], at: usize, which: u8) -> usize {
     )
 }
 
-// The calls that give it.
-fn put_by(out: &mut [u8], at: usize, which: u8) -> usize {
-    put_word(
-        out,
-        at,
-        b"connect, disconnect, indications, write, confirm\nsplitting, opening a collection, reading a notification, listing a capture\nsplitting\nsplitting\nsplitting, listing a capture\nsplitting\nopening a machine\nconnect, disconnect, indications, write, confirm\nwrite\nwrite\nwrite\nconfirm\nopening a machine, reading a Feature value\nreading a notification, collecting a notification, splitting called from C\nreading a notification, collecting a notification, splitting called from C\nreading a notification, collecting a notification, splitting called from C\ncollecting a notification\ncollecting a notification\nopening a collection\nlisting a capture\nlisting a capture\n",
-        which,
-    )
+// The calls that give a refusal.
+fn put_by(out: &mut [u8], at: usize, number: u8) -> usize {
+    let mut next = at;
+    for call in 0..CALLS {
+        if gives(call, number) {
+            next = put_comma(out, at, next);
+            next = put_call(out, next, call);
+        }
+    }
+    next
 }
 
+// The line of a refusal.
 fn put_row(out: &mut [u8], at: usize, which: u8) -> usize {
     let refusal = refusal_at(which);
-    let number = refusal.number() as u32;
-    let a = put_bytes(out, at, b"| ");
-    let b = put_decimal(out, a, number);
-    let c = put_bytes(out, b, b" | ");
+    let number = refusal.number();
+    let a = put_open(out, at);
+    let b = put_decimal(out, a, number as u32);
+    let c = put_bar(out, b);
     let d = put_when(out, c, which);
-    let e = put_bytes(out, d, b" | ");
-    let f = put_by(out, e, which);
-    put_bytes(out, f, b" |\n")
+    let e = put_bar(out, d);
+    let f = put_by(out, e, number);
+    put_close(out, f)
 }
 
+// The table of the refusals.
 pub(crate) fn put_refusals(out: &mut [u8], at: usize) -> usize {
     let mut next = put_bytes(
         out,
         at,
-        b"## Refusal numbers\n\nA refusal writes no lent octet. 10 to 22 leave the state unchanged.\n\n| no. | given exactly when | by |\n|---|---|---|\n",
+        b"\n## Refusal numbers\n\nA refusal writes no lent octet. 10 to 22 leave the state unchanged.\n\n| no. | given exactly when | by |\n|---|---|---|\n",
     );
     for which in 0..REFUSALS {
         next = put_row(out, next, which);

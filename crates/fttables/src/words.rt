@@ -1,5 +1,6 @@
 // Words in tables.
 use text::text::put_byte;
+use text::text::put_bytes;
 
 const LF: u8 = 10;
 
@@ -31,4 +32,27 @@ pub(crate) fn put_word(out: &mut [u8], at: usize, words: &[u8], which: u8) -> us
         line = line_after(line, x);
     }
     next
+}
+
+// The mark before the first cell of a table's line.
+pub(crate) fn put_open(out: &mut [u8], at: usize) -> usize {
+    put_bytes(out, at, b"| ")
+}
+
+// The mark between two cells.
+pub(crate) fn put_bar(out: &mut [u8], at: usize) -> usize {
+    put_bytes(out, at, b" | ")
+}
+
+// The mark behind the last cell, and the end of the line.
+pub(crate) fn put_close(out: &mut [u8], at: usize) -> usize {
+    put_bytes(out, at, b" |\n")
+}
+
+// A comma, where something stands between two places of the output.
+pub(crate) fn put_comma(out: &mut [u8], from: usize, at: usize) -> usize {
+    if from == at {
+        return at;
+    }
+    put_bytes(out, at, b", ")
 }

@@ -7,10 +7,10 @@ use Rattle.fttables.proofs.control.put_op_codes.Statement.{statement}
 use Rattle.fttables.proofs.control.put_op_codes.Tie as tie
 
 abbrev Inv-loop : tie.InvT-loop
-Inv-loop out₀ at next₀ op₀ t6 out next op = length out ≡ length out₀
+Inv-loop out₀ at next₀ op₀ out next op = length out ≡ length out₀
 
 abbrev μ-loop : tie.MeasureT-loop
-μ-loop out₀ at next₀ op₀ t6 out next op = 21 - op
+μ-loop out₀ at next₀ op₀ out next op = 21 - op
 
 pub put-op-codes-spec : {M : Type 1} → statement M
 put-op-codes-spec =
@@ -25,7 +25,5 @@ put-op-codes-spec =
     (λ c. search needs)
     (λ c. search needs)
     (λ c. search needs)
-    (λ c. search needs)
-    (λ c κs. search needs)
     (λ c. search needs)
     (λ c. search needs))

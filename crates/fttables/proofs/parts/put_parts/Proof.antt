@@ -7,10 +7,10 @@ use Rattle.fttables.proofs.parts.put_parts.Statement.{statement}
 use Rattle.fttables.proofs.parts.put_parts.Tie as tie
 
 abbrev Inv-loop : tie.InvT-loop
-Inv-loop out₀ at kind next₀ part₀ t7 out next part = length out ≡ length out₀
+Inv-loop out₀ at kind next₀ part₀ out next part = length out ≡ length out₀
 
 abbrev μ-loop : tie.MeasureT-loop
-μ-loop out₀ at kind next₀ part₀ t7 out next part = 16 - part
+μ-loop out₀ at kind next₀ part₀ out next part = 16 - part
 
 pub put-parts-spec : {M : Type 1} → statement M
 put-parts-spec =
@@ -22,7 +22,6 @@ put-parts-spec =
     (λ c κs. search needs)
     (λ c. search needs)
     (λ c κs. search needs)
-    (λ c. search needs)
     (λ c. search needs)
     (λ c. search needs)
     (λ c. search needs)

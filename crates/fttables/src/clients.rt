@@ -1,0 +1,116 @@
+// The calls of the control point, made step by step as in records.rt: a step gives the number of the refusal, or 0 where there is none.
+use crate::steps::mended;
+use codes::ranges::HeartRateRange;
+use codes::ranges::Ranges;
+use codes::ranges::SignedRange;
+use codes::ranges::SpeedRange;
+use console::control::Outcome;
+use console::control::confirm;
+use console::control::connect;
+use console::control::disconnect;
+use console::control::indicate;
+use console::control::open;
+use console::control::write;
+use machine::machine::Machine;
+use machine::machine::Who;
+use machine::machine::linked;
+use machine::machine::nothing;
+use output::first;
+
+// The number of a refusal; 0 where there is none.
+fn number_of(outcome: Outcome) -> u8 {
+    match outcome {
+        Outcome::Done => 0,
+        Outcome::Refused(refusal) => refusal.number(),
+    }
+}
+
+// Ranges from 0 to 0, but for the least speed, which may be above the greatest.
+fn ranges(least: u8) -> Ranges {
+    let speed = SpeedRange {
+        least: least as u16,
+        greatest: 0,
+    };
+    let signed = SignedRange {
+        least: 0,
+        greatest: 0,
+    };
+    let heart_rate = HeartRateRange {
+        least: 0,
+        greatest: 0,
+    };
+    Ranges {
+        speed,
+        inclination: signed,
+        resistance: signed,
+        power: signed,
+        heart_rate,
+    }
+}
+
+// Opens a machine, with the Feature value's length and the ranges put right in turn.
+pub(crate) fn opening(step: u8) -> u8 {
+    let octets = [0u8; 8];
+    let feature = first(&octets, mended(step, 1, 7, 8) as usize);
+    let outcome = open(feature, ranges(mended(step, 2, 1, 0))).outcome;
+    number_of(outcome)
+}
+
+// A machine with a response due to client 0; client 1 is connected with indications off, and no other is connected.
+fn awaiting() -> Machine {
+    linked(
+        nothing(),
+        [true, true, false, false],
+        [true, false, false, false],
+        Who::Client(0),
+        Who::Nobody,
+    )
+}
+
+// Connects client 4, then one that is connected, then one that is not.
+pub(crate) fn connecting(step: u8) -> u8 {
+    let client = mended(step, 1, 4, mended(step, 2, 1, 2));
+    let outcome = connect(awaiting(), client).outcome;
+    number_of(outcome)
+}
+
+// Client 4, then one that is not connected, then one that is.
+fn client_at(step: u8) -> u8 {
+    mended(step, 1, 4, mended(step, 2, 2, 1))
+}
+
+// Disconnects these clients in turn.
+pub(crate) fn disconnecting(step: u8) -> u8 {
+    let outcome = disconnect(awaiting(), client_at(step)).outcome;
+    number_of(outcome)
+}
+
+// Turns indications on for these clients in turn.
+pub(crate) fn indicating(step: u8) -> u8 {
+    let outcome = indicate(awaiting(), client_at(step), true).outcome;
+    number_of(outcome)
+}
+
+// Confirms by these clients in turn, and then by the one to whom a response is due.
+pub(crate) fn confirming(step: u8) -> u8 {
+    let client = mended(step, 3, client_at(step), 0);
+    let outcome = confirm(awaiting(), client).outcome;
+    number_of(outcome)
+}
+
+// The machine before a step, and from it on the same after its response is confirmed.
+fn confirmed(step: u8, from: u8) -> Machine {
+    let machine = awaiting();
+    if step < from {
+        return machine;
+    }
+    confirm(machine, 0).machine
+}
+
+// Writes by these clients in turn, with the octets, then the client's indications and then the awaited response put right.
+pub(crate) fn writing(step: u8) -> u8 {
+    let client = mended(step, 4, client_at(step), 0);
+    let octets = first(b"\x00", mended(step, 3, 0, 1) as usize);
+    let outcome = write(confirmed(step, 5), client, octets).outcome;
+    number_of(outcome)
+}
