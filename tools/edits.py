@@ -7,7 +7,7 @@ import os
 import re
 import sys
 
-LIBRARIES = ["kinds", "wire", "record", "text", "codes", "machine", "console", "service", "reference", "output", "listing", "demands", "phone"]
+LIBRARIES = ["kinds", "wire", "values", "record", "text", "codes", "machine", "console", "service", "reference", "output", "entries", "listing", "demands", "phone"]
 
 # What its calls print is promised by no contract, so that an edit by chance says nothing; only its other calls are tried.
 PRINTING = "output"

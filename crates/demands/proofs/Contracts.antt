@@ -10,7 +10,7 @@ use contract.Lifetimes.{Lfts}
 use denote.Ref.{now}
 use denote.Triple.Clauses.{AtExit}
 use borrow.Author.Tests.{le-leb}
-use Rattle.record.specs.declared.record.Record.{Record}
+use Rattle.values.specs.declared.record.Record.{Record}
 use Rattle.record.specs.declared.split.SplitAnswer.{SplitAnswer}
 use Rattle.wire.specs.Answer.{given}
 use Rattle.record.specs.Split.{meant}

@@ -11,7 +11,7 @@ use lib.Pow.{pow-pos, pow-add, pow-mono}
 use lib.Arith.{digits-lt}
 use Rattle.kinds.specs.Layout.{layout}
 use Rattle.kinds.specs.Groups.{flags-octets, set-length, optional}
-use Rattle.record.specs.Record.{of-wire, kept}
+use Rattle.values.specs.Record.{of-wire, kept}
 use Rattle.record.specs.Split.{cut, sets-of}
 use Rattle.service.specs.declared.collector.Told.{Told}
 use Rattle.service.specs.declared.collector.Told.the-variants.{Fixed}

@@ -7,7 +7,7 @@ use mathlib.Core.List.{List, [], _∷_, _++_}
 use native.Mathlib.Omega.{arith}
 use lib.IntN.{pos}
 use lib.ListN.{length}
-use Rattle.record.specs.declared.record.Record.{Record}
+use Rattle.values.specs.declared.record.Record.{Record}
 use Rattle.record.specs.declared.notification.Part.{Part}
 use Rattle.kinds.specs.Layout.{layout, tables, cross-trainer, step-climber}
 use Rattle.kinds.specs.Groups.{has, named, size, groups-of, listed}

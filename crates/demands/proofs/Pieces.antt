@@ -9,12 +9,12 @@ use native.Mathlib.Omega.{arith}
 use lib.Dec.{leb}
 use lib.ListN.{length, getD, take}
 use borrow.Author.Tests.{lt-ltb, le-leb, leb-true}
-use Rattle.record.specs.declared.record.Record.{Record}
+use Rattle.values.specs.declared.record.Record.{Record}
 use Rattle.record.specs.declared.split.Extent.{Extent}
 use Rattle.wire.specs.Answer.{Answer, given, after}
 use Rattle.kinds.specs.Groups.{known, flags-octets, set-length}
 use Rattle.wire.specs.Octets.{over}
-use Rattle.record.specs.Record.{wire, well-formed, Formed}
+use Rattle.values.specs.Record.{wire, well-formed, Formed}
 use Rattle.record.specs.Split.{payload-known, set-at, sets-of, part-octets, extent-of, split-wire, split-of, lent-after}
 use Rattle.service.specs.declared.collector.Collection.{Collection}
 use Rattle.service.specs.declared.collector.Told.{Told}

@@ -6,7 +6,7 @@ use mathlib.Core.Bool.{Bool, true, false}
 use mathlib.Core.List.{List, [], _∷_, _++_}
 use native.Mathlib.Omega.{arith}
 use lib.ListN.{length, replicate, take, length-append}
-use Rattle.record.specs.declared.record.Record.{Record}
+use Rattle.values.specs.declared.record.Record.{Record}
 use Rattle.record.specs.declared.split.Extent.{Extent}
 use Rattle.kinds.specs.Layout.{layout, tables, indoor-bike}
 use Rattle.kinds.specs.Groups.{has, named, size, groups-of, listed}
@@ -14,7 +14,7 @@ use Rattle.wire.specs.Octets.{number, spelled}
 use Rattle.wire.specs.Answer.{Answer, given}
 use Rattle.wire.specs.Answer as Answer
 use Rattle.record.specs.Notification.{part-of, read-into, values}
-use Rattle.record.specs.Record.{all-fit, others, all-zero, formed}
+use Rattle.values.specs.Record.{all-fit, others, all-zero, formed}
 use Rattle.record.specs.Split.{longest, cut, written, extent-of, split-of, lent-after, split-wire}
 use Rattle.service.specs.declared.collector.Told.{Told}
 use Rattle.service.specs.declared.collector.Told.the-variants.{Open, Fixed}

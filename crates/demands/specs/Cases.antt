@@ -5,7 +5,7 @@ use mathlib.Core.Bool.{true}
 use mathlib.Core.List.{List, [], _∷_, map}
 use lib.IntN.{ℤ, negsuc}
 use lib.ListN.{length, take}
-use Rattle.record.specs.declared.record.Record.{Record}
+use Rattle.values.specs.declared.record.Record.{Record}
 use Rattle.kinds.specs.Groups.{known, listed, flags-octets}
 use Rattle.wire.specs.Octets.{number, signed}
 use Rattle.wire.specs.Answer.{refused}

@@ -1,4 +1,3 @@
-pub mod Rows
 pub mod Partly
 pub mod Walked
 pub mod Measured

@@ -13,8 +13,6 @@ use Rattle.listing.proofs.capture.list.Reads as list
 use Rattle.listing.proofs.capture.list_length.Reads as list-length
 use Rattle.listing.proofs.capture.put_notification.Reads as put-notification
 use Rattle.listing.proofs.capture.start.Reads as start
-use Rattle.listing.proofs.lines.put_record.Reads as put-record
-use Rattle.listing.proofs.lines.put_refused.Reads as put-refused
 
 list-meant : (x y : ListAnswer) → meant x ≡ meant y → x ≡ y
 list-meant (Listed m) (Listed n) e = ap Listed (value-same m n e)
@@ -37,12 +35,4 @@ notification-once = (
       let n = wrote-once _ _ _ _ _ _ _ (p .0) (q .0) .0 in
       let l : x .listing ≡ y .listing = p .1 ∙ sym (q .1) in λ i. record { next = n i; listing = l i },
   λ κs a x y s t p q. wrote-once _ _ _ _ _ _ _ (p .0) (q .0) .1,
-)
-
-pub lines-once :
-    (Once put-record.Post × LeftOnce put-record.Post (λ κs s. now (s .0))) ×
-    (Once put-refused.Post × LeftOnce put-refused.Post (λ κs s. now (s .0)))
-lines-once = (
-  (λ κs a x y s t p q. wrote-once _ _ _ _ _ _ _ p q .0, λ κs a x y s t p q. wrote-once _ _ _ _ _ _ _ p q .1),
-  (λ κs a x y s t p q. wrote-once _ _ _ _ _ _ _ p q .0, λ κs a x y s t p q. wrote-once _ _ _ _ _ _ _ p q .1),
 )

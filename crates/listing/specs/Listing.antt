@@ -15,7 +15,7 @@ use Rattle.service.specs.Collector.{Said, waiting, handed, refused, empty, coll
 use Rattle.listing.specs.declared.capture.Listing.{Listing}
 use Rattle.listing.specs.declared.capture.ListAnswer.{ListAnswer}
 use Rattle.listing.specs.declared.capture.ListAnswer.the-variants.{Listed, Refused}
-use Rattle.listing.specs.Lines.{record-lines, refused-line}
+use Rattle.entries.specs.Lines.{record-lines, refused-line}
 
 -- "Waiting prints nothing. A refused notification prints `refused=` and goes on"; n is the number of the next record
 abbrev pub said-lines : ℕ → Said → List ℕ

@@ -8,7 +8,7 @@ use Rattle.record.specs.Notification.{part-of, read-into, values}
 use Rattle.service.specs.Collector.{joins, collect}
 use Rattle.text.specs.Text.{ascii, decimal, integer, line}
 use Rattle.text.specs.Names.{name, names}
-use Rattle.listing.specs.Lines.{field-line, head-lines, record-lines, refused-line}
+use Rattle.entries.specs.Lines.{field-line, head-lines, record-lines, refused-line}
 use Rattle.listing.specs.Listing.{begins, notifications, from-kind, listing}
 
 -- In order: the document's sample; a treadmill's record in two parts; a cross trainer's record, backward, after a notification of 1 octet and

@@ -7,7 +7,7 @@ use Rattle.kinds.specs.Layout.{layout, tables, treadmill, cross-trainer, step-c
 use Rattle.kinds.specs.Groups.{has, named, size, groups-of, listed}
 use Rattle.wire.specs.Octets.{spelled, number}
 use Rattle.record.specs.Notification.{part-of, values, read-into}
-use Rattle.record.specs.Record.{formed, all-fit, others, all-zero}
+use Rattle.values.specs.Record.{formed, all-fit, others, all-zero}
 use Rattle.record.specs.Split.{longest, cut, written, extent-of, split-wire}
 use Rattle.phone.specs.Host.{split-answer}
 

@@ -12,7 +12,7 @@ use Rattle.kinds.specs.declared.layout.Row.{Row}
 use Rattle.kinds.specs.Layout.{octets-of}
 use Rattle.kinds.specs.Groups.{has, named}
 use Rattle.wire.specs.Octets.{spelled}
-use Rattle.record.specs.Record.{all-fit, kept}
+use Rattle.values.specs.Record.{all-fit, kept}
 use Rattle.record.specs.Notification.{read-into}
 use Rattle.record.specs.Split.{written}
 use Rattle.wire.proofs.OctetLaws.{length-spelled, number-spelled}

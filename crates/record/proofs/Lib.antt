@@ -1,5 +1,3 @@
-pub mod Turns
-pub mod Records
 pub mod Reading
 pub mod Writing
 pub mod Runs

@@ -10,10 +10,7 @@ use Rattle.wire.specs.Refusal.{number-of}
 use Rattle.record.specs.Notification as Notification
 use Rattle.record.specs.Split as Split
 use Rattle.wire.proofs.RefusalLaws.{number-once}
-use Rattle.record.proofs.formed.well_formed.Reads as formed-well-formed
 use Rattle.record.proofs.notification.part_of.Reads as notification-part-of
-use Rattle.record.proofs.numbers.numbers_of.Reads as numbers-numbers-of
-use Rattle.record.proofs.numbers.record_of.Reads as numbers-record-of
 use Rattle.record.proofs.split.is_payload.Reads as split-is-payload
 use Rattle.record.proofs.notification.read.Reads as notification-read
 use Rattle.record.proofs.split.split.Reads as split-split
@@ -36,15 +33,6 @@ extent-meant (split-answers.Refused n) (split-answers.Part b) e = absurd (never 
 extent-meant (split-answers.Refused m) (split-answers.Refused n) e = ap split-answers.Refused (number-once m n (number-same (number-of m) (number-of n) e))
 
 -- ---- each public function
-
-pub formed-once : Once formed-well-formed.Post
-formed-once κs a x y s t = same
-
-pub numbers-once :
-    Once numbers-numbers-of.Post ×
-    Once numbers-record-of.Post
-numbers-once =
-    (λ κs a x y s t. same, λ κs a x y s t. same)
 
 pub part-of-once : Once notification-part-of.Post
 part-of-once κs a x y s t p q = part-meant x y (same p q)

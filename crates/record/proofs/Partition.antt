@@ -12,7 +12,7 @@ use lib.ListN.{length, getD}
 use lib.Pow.{pow-pos, pow-add, pow-mono}
 use Rattle.kinds.specs.Groups.{has, set-length, flags-octets, optional}
 use Rattle.record.specs.Parts.{PartsOf}
-use Rattle.record.specs.Record.{Formed}
+use Rattle.values.specs.Record.{Formed}
 use Rattle.record.specs.Split.{sets-of, cut}
 use Rattle.kinds.proofs.Sets.{Sub, sub-trans, sub-same, sub-low, sub-high, has-or, has-zero, has-above, has-low, has-empty}
 use Rattle.kinds.proofs.Tests.{passed, failed, tested, leb-le, leb-lt, eqb-true, eqb-false}

@@ -15,7 +15,7 @@ use Rattle.kinds.specs.Layout.{layout}
 use Rattle.kinds.specs.Groups.{named, groups-of, known, listed, flags-octets, set-length, optional, turned}
 use Rattle.wire.specs.Octets.{spelled}
 use Rattle.wire.specs.Answer.{given}
-use Rattle.record.specs.Record.{Formed, kept}
+use Rattle.values.specs.Record.{Formed, kept}
 use Rattle.record.specs.Notification.{flags-of, names, heading, part-of, read-into, values, joined}
 use Rattle.record.specs.Split.{written, flags, octets}
 use Rattle.wire.proofs.OctetLaws.{length-spelled, number-spelled}

@@ -1,4 +1,3 @@
-pub mod Record
 pub mod Notification
 pub mod Split
 pub mod Parts

@@ -5,14 +5,14 @@ use mathlib.Core.List.{List, [], _∷_, _++_}
 use lib.Dec.{leb, ltb}
 use lib.ListN.{length, getD}
 use Rattle.kinds.specs.declared.layout.Row.{Row}
-use Rattle.record.specs.declared.record.Record.{Record}
+use Rattle.values.specs.declared.record.Record.{Record}
 use Rattle.record.specs.declared.split.Extent.{Extent}
 use Rattle.record.specs.declared.split.SplitAnswer.{SplitAnswer}
 use Rattle.record.specs.declared.split.SplitAnswer.the-variants.{Part, Refused}
 use Rattle.kinds.specs.Layout.{layout, octets-of}
 use Rattle.kinds.specs.Groups.{named, known, flags-octets, set-length, turned}
 use Rattle.wire.specs.Octets.{spelled, over}
-use Rattle.record.specs.Record.{wire, formed}
+use Rattle.values.specs.Record.{wire, formed}
 use Rattle.wire.specs.Answer.{Answer, refused, given, provided, after}
 use Rattle.wire.specs.Refusal.{number-of}
 

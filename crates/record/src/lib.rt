@@ -1,12 +1,12 @@
-// The record layer: with it go the tables and what is below a record on the wire.
+// The record layer: with it go the tables, what is below a record on the wire, and its values.
 pub use kinds::groups;
 pub use kinds::layout;
+pub use values::formed;
+pub use values::numbers;
+pub use values::record;
 pub use wire::feature;
 pub use wire::octets;
 pub use wire::refusal;
 
-pub mod formed;
 pub mod notification;
-pub mod numbers;
-pub mod record;
 pub mod split;

@@ -1,7 +1,4 @@
 // Splitting a record into parts, each a notification that fits a payload.
-use crate::formed::formed;
-use crate::numbers::numbers_of;
-use crate::record::Record;
 use kinds::groups::BITS;
 use kinds::groups::flags_length;
 use kinds::groups::group_length;
@@ -13,6 +10,9 @@ use kinds::layout::Row;
 use kinds::layout::octets;
 use kinds::layout::row_count;
 use kinds::layout::row_of;
+use values::formed::formed;
+use values::numbers::numbers_of;
+use values::record::Record;
 use wire::octets::put_u16;
 use wire::octets::put_u24;
 use wire::octets::put_value;

@@ -3,7 +3,7 @@ use Prim.Native.Nat.{ℕ}
 use mathlib.Core.Path.{_≡_, refl, sym, ap, ap₂, _∙_}
 use mathlib.Core.Bool.{Bool}
 use native.Mathlib.Omega.{arith}
-use Rattle.record.specs.declared.record.Record.{Record}
+use Rattle.values.specs.declared.record.Record.{Record}
 use Rattle.wire.specs.Refusal.{number-of}
 use Rattle.kinds.proofs.Once.{Once}
 use Rattle.wire.proofs.Once.{number-same, never}

@@ -7,7 +7,7 @@ use lib.Bits.{bitOr}
 use Rattle.record.specs.declared.notification.Part.{Part}
 use Rattle.wire.specs.Answer.{Answer, given, after}
 use Rattle.record.specs.Notification.{part-of, joined, held-after}
-use Rattle.record.specs.Record.{of-wire}
+use Rattle.values.specs.Record.{of-wire}
 use Rattle.service.specs.declared.collector.Collection.{Collection}
 use Rattle.service.specs.Collector.{waiting, handed, zeros, collection, empty, incomplete, outside, drops, refuses, joins, collect}
 

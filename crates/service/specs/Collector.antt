@@ -6,12 +6,12 @@ use lib.Bits.{bitAnd, bitOr}
 use lib.Dec.{eqb, leb}
 use lib.ListN.{replicate}
 use Rattle.record.specs.declared.notification.Part.{Part}
-use Rattle.record.specs.declared.record.Record.{Record}
+use Rattle.values.specs.declared.record.Record.{Record}
 use Rattle.wire.specs.Answer.{Answer, given, provided}
 use Rattle.wire.specs.Answer as Answer
 use Rattle.kinds.specs.Groups.{known, listed, within}
 use Rattle.record.specs.Notification.{part-of, joined}
-use Rattle.record.specs.Record.{of-wire}
+use Rattle.values.specs.Record.{of-wire}
 use Rattle.wire.specs.Refusal.{number-of}
 use Rattle.service.specs.declared.collector.Told.{Told}
 use Rattle.service.specs.declared.collector.Told.the-variants.{Open, Fixed}
