@@ -1,3 +1,4 @@
 pub mod Parameters
 pub mod OpCodes
 pub mod Ranges
+pub mod Samples

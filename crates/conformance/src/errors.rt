@@ -45,6 +45,7 @@ fn run_ends(case: &[u8], least: &[u8], status: &[u8], greatest: &[u8], next: &[u
     finish(exchange(b, greatest, 0x01, next), b"");
 }
 
+// Speed outside its range; inclination and resistance outside theirs, and at both ends.
 fn run_ranges() {
     run_outside(b"SPE/BV-04-C", b"\x02\x71\x17", b"\x02\xFF\xFF");
     run_outside(
@@ -67,6 +68,10 @@ fn run_ranges() {
         b"\x04\x64",
         b"\x07\x64",
     );
+}
+
+// The same of power and heart rate.
+fn run_efforts() {
     run_outside(
         b"SPE/BI-07-C alternatives 1, 3",
         b"\x05\x09\x00",
@@ -94,5 +99,6 @@ pub(crate) fn run_all() {
     run_second_stop();
     run_once(b"SPE/BV-03-C", ready(), b"\x81", 0x02);
     run_ranges();
+    run_efforts();
     run_once(b"SPE/BV-09-C", ready(), b"\x07", 0x05);
 }

@@ -1,2 +1,2 @@
-// The service layer, above the record layer and on its promise alone.
+// The collector, above the record layer and on its promise alone.
 pub mod collector;
