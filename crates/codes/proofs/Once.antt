@@ -1,5 +1,5 @@
 -- No second reply meets a contract: for each public function, over the contract itself.
-use Rattle.kinds.proofs.Once.{Once, same}
+use Rattle.record.proofs.Once.{Once, same}
 use Rattle.codes.proofs.op_codes.row_of.Reads as row-of
 use Rattle.codes.proofs.parameters.octets.Reads as octets
 use Rattle.codes.proofs.parameters.count.Reads as count

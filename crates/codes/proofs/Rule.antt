@@ -6,7 +6,7 @@ use mathlib.Core.List.{List, [], _∷_, _++_}
 use native.Mathlib.Omega.{arith}
 use lib.Dec.{eqb, leb}
 use lib.ListN.{length, getD}
-use Rattle.kinds.proofs.Tests.{leb-le, eqb-eq, and-l, and-r, all, all-at}
+use Rattle.record.proofs.Tests.{leb-le, eqb-eq, and-l, and-r, all, all-at}
 use Rattle.codes.specs.declared.parameters.Parameter.the-variants.{Empty}
 use Rattle.codes.specs.declared.op_codes.Need.the-variants.{Never}
 use Rattle.codes.specs.declared.op_codes.Bound.the-variants.{Free}

@@ -6,9 +6,9 @@ use mathlib.Core.List.{[], _∷_}
 use native.Mathlib.Omega.{arith}
 use lib.Dec.{ltb, leb·zero, leb·suc-zero, leb·suc-suc}
 use lib.ListN.{getD, replicate}
-use Rattle.kinds.specs.declared.layout.Width.{Width}
-use Rattle.kinds.specs.declared.layout.Width.the-variants.{U8, U16, U24, S16}
-use Rattle.kinds.specs.Layout.{octets-of}
+use Rattle.record.specs.declared.layout.Width.{Width}
+use Rattle.record.specs.declared.layout.Width.the-variants.{U8, U16, U24, S16}
+use Rattle.record.specs.Layout.{octets-of}
 use Rattle.codes.specs.declared.parameters.Parameter.{Parameter}
 use Rattle.codes.specs.Parameters.{widths, size}
 

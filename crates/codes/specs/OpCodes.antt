@@ -2,7 +2,7 @@
 use Prim.Native.Nat.{ℕ}
 use mathlib.Core.List.{List, [], _∷_}
 use lib.ListN.{getD}
-use Rattle.kinds.specs.declared.layout.Width.the-variants.{U8, U16, U24, S16}
+use Rattle.record.specs.declared.layout.Width.the-variants.{U8, U16, U24, S16}
 use Rattle.codes.specs.declared.parameters.Parameter.{Parameter}
 use Rattle.codes.specs.declared.parameters.Parameter.the-variants.{Empty, One, TwoZones, ThreeZones, FiveZones, Simulation}
 use Rattle.codes.specs.declared.op_codes.Row

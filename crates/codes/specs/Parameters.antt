@@ -1,9 +1,9 @@
 -- The parameters of the op codes: "02 speed u16", "0E two zones, 0F three, 10 five, one u16 for each zone, 11 wind s16, grade s16, rolling u8, drag u8".
 use Prim.Native.Nat.{ℕ, _+_}
 use mathlib.Core.List.{List, [], _∷_}
-use Rattle.kinds.specs.declared.layout.Width.{Width}
-use Rattle.kinds.specs.declared.layout.Width.the-variants.{U8, U16, S16}
-use Rattle.kinds.specs.Layout.{octets-of}
+use Rattle.record.specs.declared.layout.Width.{Width}
+use Rattle.record.specs.declared.layout.Width.the-variants.{U8, U16, S16}
+use Rattle.record.specs.Layout.{octets-of}
 use Rattle.codes.specs.declared.parameters.Parameter.{Parameter}
 use Rattle.codes.specs.declared.parameters.Parameter.the-variants.{Empty, One, TwoZones, ThreeZones, FiveZones, Simulation}
 

@@ -4,7 +4,7 @@ use mathlib.Core.Bool.{Bool, true, _&&_}
 use mathlib.Core.List.{List}
 use lib.IntN.{ℤ, pos}
 use lib.Signed.{leZ}
-use Rattle.wire.specs.Octets.{number, signed}
+use Rattle.record.specs.Octets.{number, signed}
 use Rattle.codes.specs.declared.ranges.Ranges.{Ranges}
 use Rattle.codes.specs.declared.op_codes.Bound.{Bound}
 use Rattle.codes.specs.declared.op_codes.Bound.the-variants.{Free, Speed, Inclination, Resistance, Power, HeartRate}

@@ -1,7 +1,7 @@
 -- Rows of the op codes, by computation: document 01's numbers.
 use mathlib.Core.Path.{_≡_, refl}
 use mathlib.Core.List.{[], _∷_}
-use Rattle.kinds.specs.declared.layout.Width.the-variants.{U8, U16, U24, S16}
+use Rattle.record.specs.declared.layout.Width.the-variants.{U8, U16, U24, S16}
 use Rattle.codes.specs.Parameters.{widths, size}
 use Rattle.codes.specs.OpCodes.{row}
 

@@ -1,6 +1,6 @@
 // The op codes: one row each, in their order.
 use crate::parameters::Parameter;
-use kinds::layout::Width;
+use record::layout::Width;
 ghost use mathlib.Core.Path.{_≡_};
 ghost use Prim.Native.Nat.{_≤_, _<_};
 ghost use Rattle.codes.specs.OpCodes.{coded, row};

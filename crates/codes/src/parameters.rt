@@ -1,11 +1,11 @@
 // The parameters of the op codes: how many numbers each has, how wide they are, and the octets that they take.
-use kinds::layout::Width;
-use kinds::layout::octets as width_octets;
+use record::layout::Width;
+use record::layout::octets as width_octets;
 ghost use mathlib.Core.Path.{_≡_};
 ghost use mathlib.Core.Bool.{cond};
 ghost use lib.Dec.{ltb};
 ghost use lib.ListN.{length, getD};
-ghost use Rattle.kinds.specs.declared.layout.Width.the-variants.{U8};
+ghost use Rattle.record.specs.declared.layout.Width.the-variants.{U8};
 ghost use Rattle.codes.specs.Parameters.{widths, size};
 
 // No parameter, one number, a u16 for each zone, or "wind s16, grade s16, rolling u8, drag u8".

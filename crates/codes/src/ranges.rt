@@ -1,8 +1,8 @@
 // "Ranges (least, greatest, both allowed) exist for speed u16, inclination s16, resistance s16, power s16, heart rate u8."
 use crate::op_codes::Bound;
-use wire::octets::s16_at;
-use wire::octets::u8_at;
-use wire::octets::u16_at;
+use record::octets::s16_at;
+use record::octets::u8_at;
+use record::octets::u16_at;
 ghost use mathlib.Core.Path.{_≡_};
 ghost use lib.IntN.{pos};
 ghost use lib.Signed.{leZ};

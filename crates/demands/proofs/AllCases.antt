@@ -4,11 +4,11 @@ use mathlib.Core.Path.{_≡_, refl, ap}
 use mathlib.Core.List.{List, [], _∷_, map}
 use mathlib.Core.Bool.{true, false}
 use lib.ListN.{length, take, getD}
-use Rattle.values.specs.declared.record.Record.{Record}
-use Rattle.wire.specs.Answer.{Answer, refused}
-use Rattle.kinds.specs.Layout.{layout, tables, treadmill, cross-trainer, step-climber, stair-climber, rower, indoor-bike}
-use Rattle.kinds.specs.Groups.{has, named, size, groups-of, known, listed, flags-octets}
-use Rattle.wire.specs.Octets.{spelled, number}
+use Rattle.record.specs.declared.record.Record.{Record}
+use Rattle.record.specs.Answer.{Answer, refused}
+use Rattle.record.specs.Layout.{layout, tables, treadmill, cross-trainer, step-climber, stair-climber, rower, indoor-bike}
+use Rattle.record.specs.Groups.{has, named, size, groups-of, known, listed, flags-octets}
+use Rattle.record.specs.Octets.{spelled, number}
 use Rattle.record.specs.Split.{longest, cut, written, octets, sets-of, payload-known, split-wire, split-of}
 use Rattle.demands.specs.Cases.{parts, calls, Holds, cases, Every}
 use Rattle.console.specs.Control.Cases as Control

@@ -6,11 +6,11 @@ use mathlib.Core.List.{List, [], _∷_, _++_}
 use native.Mathlib.Numerals.{add-one}
 use native.Mathlib.Omega.{arith}
 use lib.ListN.{length, replicate}
-use Rattle.values.specs.declared.record.Record.{Record}
-use Rattle.values.specs.Record.{wire, of-wire, well-formed}
-use Rattle.kinds.specs.Groups.{flags-octets}
+use Rattle.record.specs.declared.record.Record.{Record}
+use Rattle.record.specs.Record.{wire, of-wire, well-formed}
+use Rattle.record.specs.Groups.{flags-octets}
 use Rattle.record.specs.Split.{payload-known, fits, run, cut, sets-of, part-octets}
-use Rattle.values.proofs.Records.{formed-facts, formed-in-types, numbers-again}
+use Rattle.record.proofs.Records.{formed-facts, formed-in-types, numbers-again}
 use Rattle.service.specs.declared.collector.Told.the-variants.{Open}
 use Rattle.service.specs.declared.collector.Collection.{Collection}
 use Rattle.service.specs.Collector.{Said, waiting, handed, Stepped, zeros, empty, collect}

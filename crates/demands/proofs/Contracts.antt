@@ -10,11 +10,11 @@ use contract.Lifetimes.{Lfts}
 use denote.Ref.{now}
 use denote.Triple.Clauses.{AtExit}
 use borrow.Author.Tests.{le-leb}
-use Rattle.values.specs.declared.record.Record.{Record}
+use Rattle.record.specs.declared.record.Record.{Record}
 use Rattle.record.specs.declared.split.SplitAnswer.{SplitAnswer}
-use Rattle.wire.specs.Answer.{given}
+use Rattle.record.specs.Answer.{given}
 use Rattle.record.specs.Split.{meant}
-use Rattle.kinds.proofs.Tests.{eqb-true}
+use Rattle.record.proofs.Tests.{eqb-true}
 use Rattle.record.proofs.split.split.Kinds as kinds
 use Rattle.record.proofs.split.split.Reads as split
 use Rattle.service.proofs.collector.collect.Kinds as collect-kinds

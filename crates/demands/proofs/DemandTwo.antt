@@ -7,8 +7,8 @@ use mathlib.Core.List.{List, [], _∷_, _++_}
 use native.Mathlib.Omega.{arith}
 use lib.Bits.{bitOr}
 use lib.ListN.{length, replicate}
-use Rattle.kinds.specs.Groups.{flags-octets, set-length}
-use Rattle.kinds.proofs.Tables.{flags-most}
+use Rattle.record.specs.Groups.{flags-octets, set-length}
+use Rattle.record.proofs.Tables.{flags-most}
 use Rattle.record.proofs.Cuts.{Cuts, whole, more}
 use Rattle.record.proofs.Parts.{octets-length}
 use Rattle.service.specs.declared.collector.Told.{Told}

@@ -1,6 +1,6 @@
 -- No second reply meets the contracts of `same` and `comes_back`.
 use mathlib.Core.Path.{sym, _∙_}
-use Rattle.kinds.proofs.Once.{Once}
+use Rattle.record.proofs.Once.{Once}
 use Rattle.demands.proofs.same.Reads as same-reads
 use Rattle.demands.proofs.comes_back.Reads as comes-back-reads
 

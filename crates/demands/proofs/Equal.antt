@@ -8,8 +8,8 @@ use lib.Dec.{eqb}
 use lib.ListN.{length, getD, drop, drop-of-length-le}
 use lib.Seq.{drop-cons}
 use borrow.Author.Tests.{eq-eqb}
-use Rattle.values.specs.declared.record.Record.{Record}
-use Rattle.values.specs.Record.{wire}
+use Rattle.record.specs.declared.record.Record.{Record}
+use Rattle.record.specs.Record.{wire}
 use Rattle.demands.specs.Behaviour.{equal, same-record}
 
 pub equal-refl : (a : List ℕ) → equal a a ≡ true

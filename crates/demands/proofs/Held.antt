@@ -9,17 +9,17 @@ use lib.Dec.{eqb}
 use lib.Bits.{bitOr, or-step, or-shifted-r}
 use lib.Pow.{pow-pos, pow-add, pow-mono}
 use lib.Arith.{digits-lt}
-use Rattle.kinds.specs.Layout.{layout}
-use Rattle.kinds.specs.Groups.{flags-octets, set-length, optional}
-use Rattle.values.specs.Record.{of-wire, kept}
+use Rattle.record.specs.Layout.{layout}
+use Rattle.record.specs.Groups.{flags-octets, set-length, optional}
+use Rattle.record.specs.Record.{of-wire, kept}
 use Rattle.record.specs.Split.{cut, sets-of}
 use Rattle.service.specs.declared.collector.Told.{Told}
 use Rattle.service.specs.declared.collector.Told.the-variants.{Fixed}
 use Rattle.service.specs.Collector.{waiting, handed, zeros, refuses, incomplete, collect}
-use Rattle.kinds.proofs.Sets.{Sub, sub-trans, sub-high}
-use Rattle.kinds.proofs.Tests.{eqb-true, eqb-false}
-use Rattle.kinds.proofs.Rows.{named-empty}
-use Rattle.kinds.proofs.Tables.{flags-most}
+use Rattle.record.proofs.Sets.{Sub, sub-trans, sub-high}
+use Rattle.record.proofs.Tests.{eqb-true, eqb-false}
+use Rattle.record.proofs.Rows.{named-empty}
+use Rattle.record.proofs.Tables.{flags-most}
 use Rattle.record.proofs.Kept.{kept-or}
 use Rattle.record.proofs.Cuts.{Cuts, cuts, both-parts, mod-multiple}
 use Rattle.record.proofs.Parts.{sub-main, sub-suc, sub-le, the-sound, groups-even, groups-low}

@@ -9,8 +9,8 @@ use lib.Bits.{and-comm, and-shifted}
 use Rattle.service.specs.declared.collector.Told.{Told}
 use Rattle.service.specs.declared.collector.Told.the-variants.{Open, Fixed}
 use Rattle.service.specs.Collector.{lowest, drops, outside, incomplete}
-use Rattle.kinds.proofs.Sets.{Sub, and-of-sub, mod-digit}
-use Rattle.kinds.proofs.Tests.{passed, failed, tested, leb-true, leb-false, eqb-true, eqb-false, eqb-eq, eqb-ne}
+use Rattle.record.proofs.Sets.{Sub, and-of-sub, mod-digit}
+use Rattle.record.proofs.Tests.{passed, failed, tested, leb-true, leb-false, eqb-true, eqb-false, eqb-eq, eqb-ne}
 use Rattle.record.proofs.Cuts.{mod-multiple}
 
 -- ---- the lowest group of a set, as a number

@@ -7,13 +7,13 @@ use mathlib.Core.List.{List, [], _∷_, _++_}
 use native.Mathlib.Omega.{arith}
 use lib.IntN.{pos}
 use lib.ListN.{length}
-use Rattle.values.specs.declared.record.Record.{Record}
+use Rattle.record.specs.declared.record.Record.{Record}
 use Rattle.record.specs.declared.notification.Part.{Part}
-use Rattle.kinds.specs.Layout.{layout, tables, cross-trainer, step-climber}
-use Rattle.kinds.specs.Groups.{has, named, size, groups-of, listed}
-use Rattle.wire.specs.Octets.{number}
-use Rattle.wire.specs.Answer.{Answer, given}
-use Rattle.wire.specs.Answer as Answer
+use Rattle.record.specs.Layout.{layout, tables, cross-trainer, step-climber}
+use Rattle.record.specs.Groups.{has, named, size, groups-of, listed}
+use Rattle.record.specs.Octets.{number}
+use Rattle.record.specs.Answer.{Answer, given}
+use Rattle.record.specs.Answer as Answer
 use Rattle.record.specs.Notification.{part-of, read-into, values}
 use Rattle.service.specs.declared.collector.Told.the-variants.{Open, Fixed}
 use Rattle.service.specs.declared.collector.Collection.{Collection}

@@ -9,17 +9,17 @@ use native.Mathlib.Omega.{arith}
 use lib.Dec.{leb}
 use lib.ListN.{length, getD, take}
 use borrow.Author.Tests.{lt-ltb, le-leb, leb-true}
-use Rattle.values.specs.declared.record.Record.{Record}
+use Rattle.record.specs.declared.record.Record.{Record}
 use Rattle.record.specs.declared.split.Extent.{Extent}
-use Rattle.wire.specs.Answer.{Answer, given, after}
-use Rattle.kinds.specs.Groups.{known, flags-octets, set-length}
-use Rattle.wire.specs.Octets.{over}
-use Rattle.values.specs.Record.{wire, well-formed, Formed}
+use Rattle.record.specs.Answer.{Answer, given, after}
+use Rattle.record.specs.Groups.{known, flags-octets, set-length}
+use Rattle.record.specs.Octets.{over}
+use Rattle.record.specs.Record.{wire, well-formed, Formed}
 use Rattle.record.specs.Split.{payload-known, set-at, sets-of, part-octets, extent-of, split-wire, split-of, lent-after}
 use Rattle.service.specs.declared.collector.Collection.{Collection}
 use Rattle.service.specs.declared.collector.Told.{Told}
 use Rattle.service.specs.Collector.{Said, collect, empty}
-use Rattle.kinds.proofs.Tests.{and-l, and-r}
+use Rattle.record.proofs.Tests.{and-l, and-r}
 use Rattle.record.proofs.Parts.{octets-length}
 use Rattle.record.proofs.Again.{front, facts, record-parts}
 use Rattle.demands.specs.Behaviour.{Splitter, Collector, buffer, length-of, parts-of, each, piece, pieces, SplitsAsPromised, CollectsAsPromised, collector-of}

@@ -6,15 +6,15 @@ use mathlib.Core.Bool.{Bool, true, false}
 use mathlib.Core.List.{List, [], _∷_, _++_}
 use native.Mathlib.Omega.{arith}
 use lib.ListN.{length, replicate, take, length-append}
-use Rattle.values.specs.declared.record.Record.{Record}
+use Rattle.record.specs.declared.record.Record.{Record}
 use Rattle.record.specs.declared.split.Extent.{Extent}
-use Rattle.kinds.specs.Layout.{layout, tables, indoor-bike}
-use Rattle.kinds.specs.Groups.{has, named, size, groups-of, listed}
-use Rattle.wire.specs.Octets.{number, spelled}
-use Rattle.wire.specs.Answer.{Answer, given}
-use Rattle.wire.specs.Answer as Answer
+use Rattle.record.specs.Layout.{layout, tables, indoor-bike}
+use Rattle.record.specs.Groups.{has, named, size, groups-of, listed}
+use Rattle.record.specs.Octets.{number, spelled}
+use Rattle.record.specs.Answer.{Answer, given}
+use Rattle.record.specs.Answer as Answer
 use Rattle.record.specs.Notification.{part-of, read-into, values}
-use Rattle.values.specs.Record.{all-fit, others, all-zero, formed}
+use Rattle.record.specs.Record.{all-fit, others, all-zero, formed}
 use Rattle.record.specs.Split.{longest, cut, written, extent-of, split-of, lent-after, split-wire}
 use Rattle.service.specs.declared.collector.Told.{Told}
 use Rattle.service.specs.declared.collector.Told.the-variants.{Open, Fixed}

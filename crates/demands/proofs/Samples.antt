@@ -9,13 +9,13 @@ use lib.Pow.{pow-pos}
 use mir.Syntax.{w16}
 use mir.Val.{SFits}
 use mir.Facts.{sfits-toZ}
-use Rattle.values.specs.declared.record.Record.{Record}
-use Rattle.kinds.specs.Layout.{layout, tables, cross-trainer, step-climber, indoor-bike}
-use Rattle.kinds.specs.Groups.{has, named, size, groups-of, listed}
-use Rattle.wire.specs.Octets.{signed, spelled}
-use Rattle.values.specs.Record.{of-wire, wire, all-fit, others, all-zero, formed, in-types}
+use Rattle.record.specs.declared.record.Record.{Record}
+use Rattle.record.specs.Layout.{layout, tables, cross-trainer, step-climber, indoor-bike}
+use Rattle.record.specs.Groups.{has, named, size, groups-of, listed}
+use Rattle.record.specs.Octets.{signed, spelled}
+use Rattle.record.specs.Record.{of-wire, wire, all-fit, others, all-zero, formed, in-types}
 use Rattle.record.specs.Split.{longest, cut, written, octets, sets-of}
-use Rattle.values.proofs.Records.{numbers-again, formed-in-types}
+use Rattle.record.proofs.Records.{numbers-again, formed-in-types}
 use Rattle.service.specs.Collector.{zeros}
 use Rattle.demands.specs.Behaviour.{pieces}
 use Rattle.demands.specs.Demands.{Good}

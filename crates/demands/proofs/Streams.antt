@@ -10,8 +10,8 @@ use lib.Pow.{pow-pos}
 use lib.Dec.{eqb}
 use lib.Bits.{bitOr}
 use lib.ListN.{length}
-use Rattle.kinds.specs.Groups.{flags-octets, set-length}
-use Rattle.kinds.proofs.Tests.{passed, failed, tested, eqb-eq, eqb-ne}
+use Rattle.record.specs.Groups.{flags-octets, set-length}
+use Rattle.record.proofs.Tests.{passed, failed, tested, eqb-eq, eqb-ne}
 use Rattle.record.proofs.Cuts.{Cuts, whole, more}
 use Rattle.service.specs.declared.collector.Told.the-variants.{Fixed}
 use Rattle.service.specs.Collector.{handed, refused, zeros, collect}

@@ -6,21 +6,21 @@ use mathlib.Core.List.{List, [], _∷_}
 use native.Mathlib.Omega.{arith}
 use lib.Dec.{eqb}
 use lib.Bits.{bitOr}
-use Rattle.values.specs.declared.record.Record.{Record}
+use Rattle.record.specs.declared.record.Record.{Record}
 use Rattle.record.specs.declared.notification.Part.{Part}
-use Rattle.kinds.specs.Layout.{layout}
-use Rattle.kinds.specs.Groups.{named, flags-octets, set-length, optional}
-use Rattle.wire.specs.Answer.{Answer}
+use Rattle.record.specs.Layout.{layout}
+use Rattle.record.specs.Groups.{named, flags-octets, set-length, optional}
+use Rattle.record.specs.Answer.{Answer}
 use Rattle.record.specs.Notification.{joined}
-use Rattle.values.specs.Record.{of-wire, wire, kept, Formed}
+use Rattle.record.specs.Record.{of-wire, wire, kept, Formed}
 use Rattle.record.specs.Split.{octets}
 use Rattle.service.specs.declared.collector.Told.{Told}
 use Rattle.service.specs.declared.collector.Collection.{Collection}
 use Rattle.service.specs.Collector.{waiting, handed, zeros, drops, outside, incomplete, refuses, joins, answers-to, collect}
-use Rattle.kinds.proofs.Sets.{Sub}
-use Rattle.kinds.proofs.Tables.{flags-most}
+use Rattle.record.proofs.Sets.{Sub}
+use Rattle.record.proofs.Tables.{flags-most}
 use Rattle.record.proofs.Parts.{part-again, values-again}
-use Rattle.values.proofs.Records.{formed-facts, record-again}
+use Rattle.record.proofs.Records.{formed-facts, record-again}
 use Rattle.demands.specs.Demands.{Good}
 
 -- a well-formed record, by its wire numbers

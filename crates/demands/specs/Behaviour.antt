@@ -3,12 +3,12 @@ use Prim.Native.Nat.{ℕ, zero, suc}
 use mathlib.Core.Path.{_≡_}
 use mathlib.Core.Bool.{Bool, true, false, _&&_}
 use lib.Dec.{eqb}
-use Rattle.values.specs.Record.{wire}
+use Rattle.record.specs.Record.{wire}
 use mathlib.Core.List.{List, [], _∷_}
 use lib.ListN.{length, take, replicate}
-use Rattle.values.specs.declared.record.Record.{Record}
+use Rattle.record.specs.declared.record.Record.{Record}
 use Rattle.record.specs.declared.split.Extent.{Extent}
-use Rattle.wire.specs.Answer.{Answer, refused, given}
+use Rattle.record.specs.Answer.{Answer, refused, given}
 use Rattle.record.specs.Split.{split-of, lent-after}
 use Rattle.service.specs.declared.collector.Told.{Told}
 use Rattle.service.specs.declared.collector.Collection.{Collection}

@@ -5,10 +5,10 @@ use mathlib.Core.Bool.{true}
 use mathlib.Core.List.{List, [], _∷_, map}
 use lib.IntN.{ℤ, negsuc}
 use lib.ListN.{length, take}
-use Rattle.values.specs.declared.record.Record.{Record}
-use Rattle.kinds.specs.Groups.{known, listed, flags-octets}
-use Rattle.wire.specs.Octets.{number, signed}
-use Rattle.wire.specs.Answer.{refused}
+use Rattle.record.specs.declared.record.Record.{Record}
+use Rattle.record.specs.Groups.{known, listed, flags-octets}
+use Rattle.record.specs.Octets.{number, signed}
+use Rattle.record.specs.Answer.{refused}
 use Rattle.record.specs.Split.{sets-of, octets, split-of}
 use Rattle.console.specs.Control.Cases as Control
 

@@ -5,8 +5,8 @@ use mathlib.Core.Logic.{_⊎_}
 use mathlib.Core.Bool.{Bool, true, false, cond}
 use mathlib.Core.List.{List, [], _∷_, _++_}
 use lib.ListN.{length, replicate}
-use Rattle.values.specs.declared.record.Record.{Record}
-use Rattle.values.specs.Record.{well-formed, Typed}
+use Rattle.record.specs.declared.record.Record.{Record}
+use Rattle.record.specs.Record.{well-formed, Typed}
 use Rattle.record.specs.Split.{payload-known}
 use Rattle.service.specs.declared.collector.Told.{Told}
 use Rattle.service.specs.declared.collector.Told.the-variants.{Open, Fixed}

@@ -1,5 +1,8 @@
 // Demand 2 as running code: a record, split and collected, comes back equal.
+use record::formed::well_formed;
 use record::notification::LONGEST;
+use record::numbers::numbers_of;
+use record::record::Record;
 use record::split::SplitAnswer;
 use record::split::is_payload;
 use record::split::split;
@@ -9,14 +12,11 @@ use service::collector::Step;
 use service::collector::Told;
 use service::collector::collect;
 use service::collector::open;
-use values::formed::well_formed;
-use values::numbers::numbers_of;
-use values::record::Record;
 ghost use mathlib.Core.Path.{_≡_};
 ghost use mathlib.Core.Bool.{true, _&&_};
 ghost use Prim.Native.Nat.{_<_};
 ghost use lib.ListN.{length};
-ghost use Rattle.values.specs.Record.{well-formed};
+ghost use Rattle.record.specs.Record.{well-formed};
 ghost use Rattle.record.specs.Split.{payload-known, sets-of, part-octets};
 ghost use Rattle.service.specs.Collector.{meant, collect as Collector·collect};
 ghost use Rattle.demands.specs.Behaviour.{equal, same-record};

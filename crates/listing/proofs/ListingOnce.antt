@@ -1,10 +1,7 @@
 -- No second reply, state or lent content meets the contracts of the listing.
-use mathlib.Core.Path.{_≡_, sym, ap, _∙_}
+use mathlib.Core.Path.{_≡_, refl, sym, _∙_}
 use denote.Ref.{now}
-use Rattle.wire.specs.Refusal.{number-of}
-use Rattle.kinds.proofs.Once.{Once, LeftOnce}
-use Rattle.wire.proofs.Once.{number-same, value-same, never}
-use Rattle.wire.proofs.RefusalLaws.{number-once}
+use Rattle.record.proofs.Once.{Once, LeftOnce, Variant, with-value, with-refusal, by-meaning}
 use Rattle.listing.specs.declared.capture.ListAnswer.{ListAnswer}
 use Rattle.listing.specs.declared.capture.ListAnswer.the-variants.{Listed, Refused}
 use Rattle.listing.specs.Listing.{meant}
@@ -14,11 +11,12 @@ use Rattle.listing.proofs.capture.list_length.Reads as list-length
 use Rattle.listing.proofs.capture.put_notification.Reads as put-notification
 use Rattle.listing.proofs.capture.start.Reads as start
 
+list-variant : (x : ListAnswer) → Variant Listed Refused x
+list-variant (Listed n) = with-value n refl
+list-variant (Refused r) = with-refusal r refl
+
 list-meant : (x y : ListAnswer) → meant x ≡ meant y → x ≡ y
-list-meant (Listed m) (Listed n) e = ap Listed (value-same m n e)
-list-meant (Listed m) (Refused n) e = absurd (never m (number-of n) e)
-list-meant (Refused m) (Listed n) e = absurd (never n (number-of m) (sym e))
-list-meant (Refused m) (Refused n) e = ap Refused (number-once m n (number-same (number-of m) (number-of n) e))
+list-meant = by-meaning Listed Refused meant list-variant (λ a. refl) (λ r. refl)
 
 pub list-once : Once list.Post × LeftOnce list.Post (λ κs s. now (s .1 .0))
 list-once = (λ κs a x y s t p q. list-meant x y (p .0 ∙ sym (q .0)), λ κs a x y s t p q. p .1 ∙ sym (q .1))

@@ -6,7 +6,7 @@ use native.Mathlib.Nat.{zero-add}
 use native.Mathlib.Omega.{arith}
 use borrow.Author.Tests.{le-leb, lt-leb}
 use lib.ListN.{length, drop}
-use Rattle.wire.specs.Answer.{Answer, refused, given}
+use Rattle.record.specs.Answer.{Answer, refused, given}
 use Rattle.listing.specs.Listing.{answer-of, lent-after}
 use Rattle.text.specs.Text.{Wrote, top}
 use Rattle.text.proofs.Writing.{roomy}

@@ -7,10 +7,10 @@ use native.Mathlib.Omega.{arith}
 use borrow.Author.Tests.{lt-ltb, le-ltb, eq-eqb, ne-eqb}
 use lib.ListN.{length, take, drop, getD, length-drop}
 use lib.Seq.{drop-drop}
-use Rattle.kinds.specs.Groups.{known}
-use Rattle.wire.specs.Octets.{number}
+use Rattle.record.specs.Groups.{known}
+use Rattle.record.specs.Octets.{number}
 use Rattle.listing.specs.declared.capture.Listing.{Listing}
-use Rattle.entries.specs.Lines.{refused-line}
+use Rattle.listing.specs.Lines.{refused-line}
 use Rattle.listing.specs.Listing.{begins, lines-of, state-after, first, notifications, from-kind, listing}
 use Rattle.text.specs.Text.{Wrote, top}
 use Rattle.listing.proofs.Partly.{Partly, begin, more, last, finished}

@@ -4,18 +4,18 @@ use mathlib.Core.Bool.{cond}
 use mathlib.Core.List.{List, [], _∷_, _++_}
 use lib.Dec.{eqb, leb, ltb}
 use lib.ListN.{length, take, drop}
-use Rattle.wire.specs.Answer.{Answer, given, provided, after}
-use Rattle.wire.specs.Answer as Answer
-use Rattle.kinds.specs.Groups.{known}
-use Rattle.wire.specs.Octets.{number, over}
-use Rattle.wire.specs.Refusal.{number-of}
+use Rattle.record.specs.Answer.{Answer, given, provided, after}
+use Rattle.record.specs.Answer as Answer
+use Rattle.record.specs.Groups.{known}
+use Rattle.record.specs.Octets.{number, over}
+use Rattle.record.specs.Refusal.{number-of}
 use Rattle.service.specs.declared.collector.Collection.{Collection}
 use Rattle.service.specs.declared.collector.Told.the-variants.{Open}
 use Rattle.service.specs.Collector.{Said, waiting, handed, refused, empty, collect}
 use Rattle.listing.specs.declared.capture.Listing.{Listing}
 use Rattle.listing.specs.declared.capture.ListAnswer.{ListAnswer}
 use Rattle.listing.specs.declared.capture.ListAnswer.the-variants.{Listed, Refused}
-use Rattle.entries.specs.Lines.{record-lines, refused-line}
+use Rattle.listing.specs.Lines.{record-lines, refused-line}
 
 -- "Waiting prints nothing. A refused notification prints `refused=` and goes on"; n is the number of the next record
 abbrev pub said-lines : ℕ → Said → List ℕ

@@ -1,14 +1,14 @@
 -- Listings as theorems, by computation.
 use mathlib.Core.Path.{_≡_, refl}
 use mathlib.Core.List.{[], _∷_}
-use Rattle.kinds.specs.Layout.{layout, tables, treadmill, cross-trainer, step-climber, stair-climber, rower, indoor-bike}
-use Rattle.kinds.specs.Groups.{has, named, size, groups-of, listed}
-use Rattle.wire.specs.Octets.{number}
+use Rattle.record.specs.Layout.{layout, tables, treadmill, cross-trainer, step-climber, stair-climber, rower, indoor-bike}
+use Rattle.record.specs.Groups.{has, named, size, groups-of, listed}
+use Rattle.record.specs.Octets.{number}
 use Rattle.record.specs.Notification.{part-of, read-into, values}
 use Rattle.service.specs.Collector.{joins, collect}
 use Rattle.text.specs.Text.{ascii, decimal, integer, line}
 use Rattle.text.specs.Names.{name, names}
-use Rattle.entries.specs.Lines.{field-line, head-lines, record-lines, refused-line}
+use Rattle.listing.specs.Lines.{field-line, head-lines, record-lines, refused-line}
 use Rattle.listing.specs.Listing.{begins, notifications, from-kind, listing}
 
 -- In order: the document's sample; a treadmill's record in two parts; a cross trainer's record, backward, after a notification of 1 octet and

@@ -5,8 +5,8 @@ use mathlib.Core.List.{List, _++_}
 use native.Mathlib.Omega.{arith}
 use lib.ListN.{length, take, drop, replicate}
 use lib.Seq.{take-at}
-use Rattle.wire.specs.Octets.{placed}
-use Rattle.wire.proofs.OctetLaws.{placed-over}
+use Rattle.record.specs.Octets.{placed}
+use Rattle.record.proofs.OctetLaws.{placed-over}
 use Rattle.machine.specs.Octets.{boxed}
 
 zeros-left : (n k : ℕ) → drop {A = ℕ} n (replicate k 0) ≡ replicate (k - n) 0

@@ -6,8 +6,8 @@ use mathlib.Core.List.{List, [], _∷_, _++_}
 use native.Mathlib.Omega.{arith}
 use lib.Dec.{eqb, leb}
 use lib.ListN.{length, getD}
-use Rattle.kinds.proofs.Tests.{leb-le, eqb-eq, and-l, and-r}
-use Rattle.wire.specs.Octets.{number}
+use Rattle.record.proofs.Tests.{leb-le, eqb-eq, and-l, and-r}
+use Rattle.record.specs.Octets.{number}
 use Rattle.codes.specs.declared.ranges.Ranges.{Ranges}
 use Rattle.codes.specs.Ranges.{allowed}
 use Rattle.codes.specs.OpCodes.{row}

@@ -1,5 +1,5 @@
 -- No second reply meets a contract: for each public function, over the contract itself.
-use Rattle.kinds.proofs.Once.{Once, same}
+use Rattle.record.proofs.Once.{Once, same}
 use Rattle.machine.proofs.effects.perform.Reads as perform
 use Rattle.machine.proofs.effects.setting.Reads as setting
 use Rattle.machine.proofs.judging.first_result.Reads as first-result

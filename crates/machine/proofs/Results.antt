@@ -5,13 +5,13 @@ use mathlib.Core.Bool.{Bool, true}
 use mathlib.Core.List.{List, [], _++_}
 use native.Mathlib.Omega.{arith}
 use borrow.Author.Tests.{ne-eqb}
-use Rattle.wire.specs.Octets.{number}
+use Rattle.record.specs.Octets.{number}
 use Rattle.machine.specs.declared.machine.Machine.{Machine}
 use Rattle.codes.specs.OpCodes.{OpCode, row}
 use Rattle.machine.specs.Octets.{boxed}
 use Rattle.machine.specs.Judging.{supports, controls, fit, fails, first-of, result}
 use Rattle.machine.specs.Effects.{done, performed}
-use Rattle.kinds.proofs.Tests.{passed, failed, tested}
+use Rattle.record.proofs.Tests.{passed, failed, tested}
 
 pub judges : (m : Machine) (c : ℕ) (q : OpCode) (p : List ℕ) {s k t f : Bool} → s ≡ supports (m .feature) (q .need) → k ≡ controls (m .holder) c (q .act) →
     t ≡ fit (m .ranges) q p → f ≡ fails (m .holder) (m .mode) c (q .act) (number 1 p) → first-of s k t f ≡ result m c q p

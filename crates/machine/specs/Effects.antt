@@ -5,7 +5,7 @@ use mathlib.Core.Bool.{cond}
 use mathlib.Core.List.{List, [], _++_}
 use lib.Dec.{eqb}
 use lib.ListN.{take, drop}
-use Rattle.wire.specs.Octets.{number, placed}
+use Rattle.record.specs.Octets.{number, placed}
 use Rattle.machine.specs.declared.machine.Machine.{Machine}
 use Rattle.machine.specs.declared.machine.Mode.{Mode}
 use Rattle.machine.specs.declared.machine.Mode.the-variants.{Stopped, Running, Paused}

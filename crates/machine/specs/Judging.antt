@@ -5,9 +5,9 @@ use mathlib.Core.Bool.{Bool, true, false, cond, not, _&&_, _||_}
 use mathlib.Core.List.{List}
 use lib.Dec.{eqb}
 use lib.ListN.{length}
-use Rattle.wire.specs.declared.feature.Feature.{Feature}
-use Rattle.wire.specs.Feature.{has-named}
-use Rattle.wire.specs.Octets.{number}
+use Rattle.record.specs.declared.feature.Feature.{Feature}
+use Rattle.record.specs.Feature.{has-named}
+use Rattle.record.specs.Octets.{number}
 use Rattle.codes.specs.declared.ranges.Ranges.{Ranges}
 use Rattle.machine.specs.declared.machine.Machine.{Machine}
 use Rattle.machine.specs.declared.machine.Mode.{Mode}

@@ -5,7 +5,7 @@ use mathlib.Core.List.{List}
 use lib.Dec.{eqb}
 use lib.IntN.{pos}
 use lib.ListN.{getD, replicate}
-use Rattle.wire.specs.declared.feature.Feature.{Feature}
+use Rattle.record.specs.declared.feature.Feature.{Feature}
 use Rattle.codes.specs.declared.ranges.Ranges.{Ranges}
 use Rattle.machine.specs.declared.machine.Machine.{Machine}
 use Rattle.machine.specs.declared.machine.Mode.{Mode}

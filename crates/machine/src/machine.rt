@@ -3,7 +3,7 @@ use codes::ranges::HeartRateRange;
 use codes::ranges::Ranges;
 use codes::ranges::SignedRange;
 use codes::ranges::SpeedRange;
-use wire::feature::Feature;
+use record::feature::Feature;
 ghost use mathlib.Core.Path.{_≡_};
 ghost use Rattle.machine.specs.Machine.{is, someone as Machine·someone, without as Machine·without, fresh as Machine·fresh, no-machine, linked as Machine·linked, awaiting as Machine·awaiting, held-by as Machine·held-by, going as Machine·going, storing, cleared};
 

@@ -3,7 +3,7 @@ ghost use mathlib.Core.Path.{_≡_};
 ghost use mathlib.Core.List.{[], _∷_};
 ghost use Prim.Native.Nat.{_+_, _≤_};
 ghost use lib.ListN.{length, take, drop};
-ghost use Rattle.wire.specs.Octets.{placed};
+ghost use Rattle.record.specs.Octets.{placed};
 ghost use Rattle.machine.specs.Octets.{boxed};
 
 // As many octets as the count says; those past the count are 0.

@@ -1,7 +1,7 @@
 -- No second reply meets a contract: of the public functions one has a contract, and what it replies is lent.
 use mathlib.Core.Path.{_≡_}
 use denote.Ref.{now}
-use Rattle.kinds.proofs.Once.{same}
+use Rattle.record.proofs.Once.{same}
 use Rattle.output.proofs.first.Reads as first
 
 module _ {K : Type 0} {A R S : K → Type 0} (Post : (κs : K) → A κs → R κs → S κs → Type 0) where

@@ -1,7 +1,7 @@
 -- No second reply meets the contract of a C host's call, and no second content is left behind its pointers.
 use mathlib.Core.Path.{sym, _∙_}
 use denote.Ref.{now}
-use Rattle.kinds.proofs.Once.{Once, LeftOnce}
+use Rattle.record.proofs.Once.{Once, LeftOnce}
 use Rattle.phone.proofs.hordivasz_list.Reads as list
 use Rattle.phone.proofs.hordivasz_list_length.Reads as list-length
 use Rattle.phone.proofs.hordivasz_split.Reads as split

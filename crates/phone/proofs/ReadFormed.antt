@@ -8,20 +8,20 @@ use borrow.Author.Tests.{lt-ltb, ltb-true}
 use lib.Dec.{eqb, leb, ltb}
 use lib.ListN.{length, getD, set, drop, replicate, length-set}
 use lib.Seq.{set-comm, set-set, getD-drop, getD-set-same, getD-set-other}
-use Rattle.kinds.specs.declared.layout.Row.{Row}
+use Rattle.record.specs.declared.layout.Row.{Row}
 use Rattle.record.specs.declared.notification.Part.{Part}
-use Rattle.wire.specs.Answer.{given, provided}
-use Rattle.kinds.specs.Layout.{layout, octets-of, tables, treadmill, cross-trainer, step-climber, stair-climber, rower, indoor-bike}
-use Rattle.kinds.specs.Groups.{has, named, listed, known, within, optional, turned, flags-octets, set-length}
-use Rattle.wire.specs.Octets.{number}
+use Rattle.record.specs.Answer.{given, provided}
+use Rattle.record.specs.Layout.{layout, octets-of, tables, treadmill, cross-trainer, step-climber, stair-climber, rower, indoor-bike}
+use Rattle.record.specs.Groups.{has, named, listed, known, within, optional, turned, flags-octets, set-length}
+use Rattle.record.specs.Octets.{number}
 use Rattle.record.specs.Notification.{flags-of, names, heading, part-of, read-into, values, joined}
-use Rattle.values.specs.Record.{all-fit, others, all-zero, formed}
+use Rattle.record.specs.Record.{all-fit, others, all-zero, formed}
 use Rattle.record.specs.Split.{payload-known, split-wire, extent-of}
-use Rattle.wire.proofs.OctetLaws.{number-below}
-use Rattle.wire.proofs.Once.{value-same, never}
-use Rattle.kinds.proofs.Sets.{lowest-and, has-and, has-half, has-zero, Sub, and-of-sub}
-use Rattle.kinds.proofs.Tests.{and-l, and-r, eqb-true, eqb-eq, eqb-ne, leb-true, all, all-at}
-use Rattle.values.proofs.Turns.{tests}
+use Rattle.record.proofs.OctetLaws.{number-below}
+use Rattle.record.proofs.Once.{value-same, never}
+use Rattle.record.proofs.Sets.{lowest-and, has-and, has-half, has-zero, Sub, and-of-sub}
+use Rattle.record.proofs.Tests.{and-l, and-r, eqb-true, eqb-eq, eqb-ne, leb-true, all, all-at}
+use Rattle.record.proofs.Turns.{tests}
 use Rattle.record.proofs.Parts.{listed-even}
 use Rattle.service.specs.Collector.{zeros}
 use Rattle.phone.specs.Host.{split-answer}

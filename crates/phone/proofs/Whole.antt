@@ -6,15 +6,15 @@ use mathlib.Core.List.{List}
 use native.Mathlib.Omega.{arith}
 use lib.Dec.{eqb}
 use lib.ListN.{length}
-use Rattle.values.specs.declared.record.Record.{Record}
-use Rattle.wire.specs.Answer.{Answer, given, provided}
-use Rattle.kinds.specs.Groups.{known, optional, flags-octets, set-length}
+use Rattle.record.specs.declared.record.Record.{Record}
+use Rattle.record.specs.Answer.{Answer, given, provided}
+use Rattle.record.specs.Groups.{known, optional, flags-octets, set-length}
 use Rattle.record.specs.Notification.{part-of, joined}
-use Rattle.values.specs.Record.{wire, well-formed, Formed}
+use Rattle.record.specs.Record.{wire, well-formed, Formed}
 use Rattle.record.specs.Split.{payload-known, octets, split-wire, split-of, lent-after}
-use Rattle.kinds.proofs.Sets.{sub-refl}
-use Rattle.kinds.proofs.Tables.{octets-most, flags-most}
-use Rattle.values.proofs.Records.{formed-facts}
+use Rattle.record.proofs.Sets.{sub-refl}
+use Rattle.record.proofs.Tables.{octets-most, flags-most}
+use Rattle.record.proofs.Records.{formed-facts}
 use Rattle.record.proofs.Parts.{part-again, values-again, listed-groups-even}
 use Rattle.service.specs.Collector.{zeros}
 use Rattle.phone.specs.Host.{split-answer, split-lent}

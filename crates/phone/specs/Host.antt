@@ -4,10 +4,10 @@ use mathlib.Core.List.{List}
 use lib.ListN.{length}
 use Rattle.record.specs.declared.notification.Part.{Part}
 use Rattle.record.specs.declared.split.Extent.{Extent}
-use Rattle.wire.specs.Answer.{Answer, refused, given, provided, after}
-use Rattle.kinds.specs.Groups.{known}
+use Rattle.record.specs.Answer.{Answer, refused, given, provided, after}
+use Rattle.record.specs.Groups.{known}
 use Rattle.record.specs.Notification.{part-of, joined}
-use Rattle.wire.specs.Octets.{over}
+use Rattle.record.specs.Octets.{over}
 use Rattle.record.specs.Split.{payload-known, octets, set-at, split-wire}
 use Rattle.service.specs.Collector.{zeros}
 

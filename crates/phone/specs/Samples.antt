@@ -2,12 +2,12 @@
 use mathlib.Core.Path.{_≡_, refl}
 use mathlib.Core.List.{List, [], _∷_}
 use Prim.Native.Nat.{ℕ}
-use Rattle.wire.specs.Answer.{refused, given}
-use Rattle.kinds.specs.Layout.{layout, tables, treadmill, cross-trainer, step-climber, stair-climber, rower, indoor-bike}
-use Rattle.kinds.specs.Groups.{has, named, size, groups-of, listed}
-use Rattle.wire.specs.Octets.{spelled, number}
+use Rattle.record.specs.Answer.{refused, given}
+use Rattle.record.specs.Layout.{layout, tables, treadmill, cross-trainer, step-climber, stair-climber, rower, indoor-bike}
+use Rattle.record.specs.Groups.{has, named, size, groups-of, listed}
+use Rattle.record.specs.Octets.{spelled, number}
 use Rattle.record.specs.Notification.{part-of, values, read-into}
-use Rattle.values.specs.Record.{formed, all-fit, others, all-zero}
+use Rattle.record.specs.Record.{formed, all-fit, others, all-zero}
 use Rattle.record.specs.Split.{longest, cut, written, extent-of, split-wire}
 use Rattle.phone.specs.Host.{split-answer}
 

@@ -6,11 +6,11 @@ use native.Mathlib.Omega.{arith}
 use native.Mathlib.Nat.{zero-mod, mul-mod-left, mul-assoc, add-mul, zero-mul, mul-div-mul-right}
 use lib.Dec.{leb, eqb}
 use lib.Pow.{pow-pos, pow-add, split, shl-shr, mod-pow-add, mod-mod-pow}
-use Rattle.kinds.specs.Groups.{set-length}
+use Rattle.record.specs.Groups.{set-length}
 use Rattle.record.specs.Split.{fits, longest, cut}
-use Rattle.kinds.proofs.Sets.{low-bit}
-use Rattle.kinds.proofs.Tests.{passed, failed, tested, leb-le, leb-lt, eqb-eq, eqb-ne}
-use Rattle.kinds.proofs.Tables.{Sound}
+use Rattle.record.proofs.Sets.{low-bit}
+use Rattle.record.proofs.Tests.{passed, failed, tested, leb-le, leb-lt, eqb-eq, eqb-ne}
+use Rattle.record.proofs.Tables.{Sound}
 use Rattle.record.proofs.Runs.{longest-fits, longest-le, longest-ge}
 
 -- a cut of the groups q * 2 ^ b, all of which stand at bit b or above

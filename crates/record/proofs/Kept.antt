@@ -8,16 +8,16 @@ use lib.Bits.{bitOr}
 use lib.ListN.{length, getD, set, length-set}
 use lib.Seq.{set-comm, set-set, drop-at}
 use borrow.Author.Tests.{ltb-true}
-use Rattle.kinds.specs.declared.layout.Row.{Row}
-use Rattle.kinds.specs.Layout.{octets-of}
-use Rattle.kinds.specs.Groups.{has, named}
-use Rattle.wire.specs.Octets.{spelled}
-use Rattle.values.specs.Record.{all-fit, kept}
+use Rattle.record.specs.declared.layout.Row.{Row}
+use Rattle.record.specs.Layout.{octets-of}
+use Rattle.record.specs.Groups.{has, named}
+use Rattle.record.specs.Octets.{spelled}
+use Rattle.record.specs.Record.{all-fit, kept}
 use Rattle.record.specs.Notification.{read-into}
 use Rattle.record.specs.Split.{written}
-use Rattle.wire.proofs.OctetLaws.{length-spelled, number-spelled}
-use Rattle.kinds.proofs.Sets.{Sub, has-or}
-use Rattle.kinds.proofs.Tests.{passed, failed, tested, eqb-eq, eqb-ne, and-l, and-r}
+use Rattle.record.proofs.OctetLaws.{length-spelled, number-spelled}
+use Rattle.record.proofs.Sets.{Sub, has-or}
+use Rattle.record.proofs.Tests.{passed, failed, tested, eqb-eq, eqb-ne, and-l, and-r}
 
 -- what is written is read back, whatever follows it
 pub read-written : (rows : List Row) (v rest z : List ℕ) → all-fit rows v ≡ true → read-into rows (written rows v ++ rest) z ≡ kept rows v z

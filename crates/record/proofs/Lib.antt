@@ -1,3 +1,13 @@
+pub mod Tests
+pub mod Arms
+pub mod Sets
+pub mod Rows
+pub mod Tables
+pub mod OctetLaws
+pub mod RefusalLaws
+pub mod FeatureLaws
+pub mod Turns
+pub mod Records
 pub mod Reading
 pub mod Writing
 pub mod Runs
@@ -6,5 +16,9 @@ pub mod Cuts
 pub mod Kept
 pub mod Parts
 pub mod Partition
-pub mod Once
 pub mod Again
+pub mod Once
+pub mod TablesOnce
+pub mod OctetsOnce
+pub mod ValuesOnce
+pub mod RecordOnce

@@ -1,50 +1,51 @@
--- No second reply meets a contract: for each public function of the crate, over the contract itself; and for a function that is lent
--- something, no second content is left there.
-use mathlib.Core.Path.{_≡_, sym, ap}
-use denote.Ref.{now}
-use Rattle.record.specs.declared.notification.PartAnswer.{PartAnswer}
-use Rattle.record.specs.declared.notification.PartAnswer.the-variants as part-answers
-use Rattle.record.specs.declared.split.SplitAnswer.{SplitAnswer}
-use Rattle.record.specs.declared.split.SplitAnswer.the-variants as split-answers
-use Rattle.wire.specs.Refusal.{number-of}
-use Rattle.record.specs.Notification as Notification
-use Rattle.record.specs.Split as Split
-use Rattle.wire.proofs.RefusalLaws.{number-once}
-use Rattle.record.proofs.notification.part_of.Reads as notification-part-of
-use Rattle.record.proofs.split.is_payload.Reads as split-is-payload
-use Rattle.record.proofs.notification.read.Reads as notification-read
-use Rattle.record.proofs.split.split.Reads as split-split
-use Rattle.record.proofs.split.split_numbers.Reads as split-numbers
-use Rattle.kinds.proofs.Once.{Once, LeftOnce, same}
-use Rattle.wire.proofs.Once.{number-same, value-same, never}
+-- No second reply: what that means of a contract, and why the meaning of an answer is the answer.
+use Prim.Native.Nat.{ℕ}
+use mathlib.Core.Path.{_≡_, sym, ap, _∙_}
+use native.Mathlib.Omega.{arith}
+use Rattle.record.specs.declared.refusal.Refusal.{Refusal}
+use Rattle.record.specs.Answer.{Answer, refused, given}
+use Rattle.record.specs.Refusal.{number-of}
+use Rattle.record.proofs.RefusalLaws.{number-once}
 
--- ---- the meaning of an answer is the answer
+module _ {K : Type 0} {A R S : K → Type 0} (Post : (κs : K) → A κs → R κs → S κs → Type 0) where
+  -- two replies that meet a contract at the same arguments are one
+  abbrev pub Once : Type 0
+  Once = (κs : K) (a : A κs) (x y : R κs) (s t : S κs) → Post κs a x s → Post κs a y t → x ≡ y
 
-part-meant : (x y : PartAnswer) → Notification.meant x ≡ Notification.meant y → x ≡ y
-part-meant (part-answers.Part a) (part-answers.Part b) e = ap part-answers.Part (value-same a b e)
-part-meant (part-answers.Part a) (part-answers.Refused n) e = absurd (never a (number-of n) e)
-part-meant (part-answers.Refused n) (part-answers.Part b) e = absurd (never b (number-of n) (sym e))
-part-meant (part-answers.Refused m) (part-answers.Refused n) e = ap part-answers.Refused (number-once m n (number-same (number-of m) (number-of n) e))
+  -- and so are the two things that are left where something was lent
+  abbrev pub LeftOnce : {B : Type 0} → ((κs : K) → S κs → B) → Type 0
+  LeftOnce lent = (κs : K) (a : A κs) (x y : R κs) (s t : S κs) → Post κs a x s → Post κs a y t → lent κs s ≡ lent κs t
 
-extent-meant : (x y : SplitAnswer) → Split.meant x ≡ Split.meant y → x ≡ y
-extent-meant (split-answers.Part a) (split-answers.Part b) e = ap split-answers.Part (value-same a b e)
-extent-meant (split-answers.Part a) (split-answers.Refused n) e = absurd (never a (number-of n) e)
-extent-meant (split-answers.Refused n) (split-answers.Part b) e = absurd (never b (number-of n) (sym e))
-extent-meant (split-answers.Refused m) (split-answers.Refused n) e = ap split-answers.Refused (number-once m n (number-same (number-of m) (number-of n) e))
+pub same : {A : Type 0} {x y z : A} → x ≡ z → y ≡ z → x ≡ y
+same p q = p ∙ sym q
 
--- ---- each public function
+pub number-same : {A : Type 0} (a b : ℕ) → _≡_ {A = Answer A} (refused a) (refused b) → a ≡ b
+number-same a b e = cc
 
-pub part-of-once : Once notification-part-of.Post
-part-of-once κs a x y s t p q = part-meant x y (same p q)
+pub value-same : {A : Type 0} (a b : A) → _≡_ {A = Answer A} (given a) (given b) → a ≡ b
+value-same a b e = cc
 
-pub read-once : Once notification-read.Post × LeftOnce notification-read.Post (λ κs s. now (s .1 .1 .0))
-read-once = (λ κs a x y s t p q. part-meant x y (same (p .0) (q .0)), λ κs a x y s t p q. same (p .1) (q .1))
+pub never : {A : Type 0} (a : A) (n : ℕ) → _≡_ {A = Answer A} (given a) (refused n) → ⊥
+never a n e = let z : _≡_ {A = ℕ} 0 1 = cc in omega arith
 
-pub payload-once : Once split-is-payload.Post
-payload-once κs a x y s t = same
+-- ---- an enum of two variants, one with a value and one with a refusal, is known by its meaning
+module _ {X A : Type 0} (G : A → X) (R : Refusal → X) where
+  pub data Variant (x : X) : Type 0 where
+    with-value : (a : A) → x ≡ G a → Variant x
+    with-refusal : (r : Refusal) → x ≡ R r → Variant x
 
-pub split-once : Once split-split.Post × LeftOnce split-split.Post (λ κs s. now (s .1 .1 .1 .0))
-split-once = (λ κs a x y s t p q. extent-meant x y (same (p .0) (q .0)), λ κs a x y s t p q. same (p .1) (q .1))
+  module _ (meant : X → Answer A) (variant : (x : X) → Variant x) (g : (a : A) → meant (G a) ≡ given a) (r : (w : Refusal) → meant (R w) ≡ refused (number-of w)) where
+    meant-value : (x : X) (a : A) → x ≡ G a → meant x ≡ given a
+    meant-value x a e = ap meant e ∙ g a
 
-pub split-numbers-once : Once split-numbers.Post × LeftOnce split-numbers.Post (λ κs s. now (s .1 .1 .1 .1 .1 .1 .0))
-split-numbers-once = (λ κs a x y s t p q. extent-meant x y (same (p .0) (q .0)), λ κs a x y s t p q. same (p .1) (q .1))
+    meant-refusal : (x : X) (w : Refusal) → x ≡ R w → meant x ≡ refused (number-of w)
+    meant-refusal x w e = ap meant e ∙ r w
+
+    pub by-meaning : (x y : X) → meant x ≡ meant y → x ≡ y
+    by-meaning x y e = from (variant x) (variant y)
+      where
+        from : Variant x → Variant y → x ≡ y
+        from (with-value a p) (with-value b q) = p ∙ ap G (value-same a b (sym (meant-value x a p) ∙ e ∙ meant-value y b q)) ∙ sym q
+        from (with-value a p) (with-refusal w q) = absurd (never a (number-of w) (sym (meant-value x a p) ∙ e ∙ meant-refusal y w q))
+        from (with-refusal w p) (with-value b q) = absurd (never b (number-of w) (sym (meant-value y b q) ∙ sym e ∙ meant-refusal x w p))
+        from (with-refusal v p) (with-refusal w q) = p ∙ ap R (number-once v w (number-same (number-of v) (number-of w) (sym (meant-refusal x v p) ∙ e ∙ meant-refusal y w q))) ∙ sym q

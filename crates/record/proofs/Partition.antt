@@ -10,13 +10,13 @@ use lib.Bits.{bitOr, or-shifted}
 use lib.Dec.{eqb, leb, eqb·suc-suc}
 use lib.ListN.{length, getD}
 use lib.Pow.{pow-pos, pow-add, pow-mono}
-use Rattle.kinds.specs.Groups.{has, set-length, flags-octets, optional}
+use Rattle.record.specs.Groups.{has, set-length, flags-octets, optional}
 use Rattle.record.specs.Parts.{PartsOf}
-use Rattle.values.specs.Record.{Formed}
+use Rattle.record.specs.Record.{Formed}
 use Rattle.record.specs.Split.{sets-of, cut}
-use Rattle.kinds.proofs.Sets.{Sub, sub-trans, sub-same, sub-low, sub-high, has-or, has-zero, has-above, has-low, has-empty}
-use Rattle.kinds.proofs.Tests.{passed, failed, tested, leb-le, leb-lt, eqb-true, eqb-false}
-use Rattle.kinds.proofs.Tables.{flags-most}
+use Rattle.record.proofs.Sets.{Sub, sub-trans, sub-same, sub-low, sub-high, has-or, has-zero, has-above, has-low, has-empty}
+use Rattle.record.proofs.Tests.{passed, failed, tested, leb-le, leb-lt, eqb-true, eqb-false}
+use Rattle.record.proofs.Tables.{flags-most}
 use Rattle.record.proofs.Cuts.{Cuts, whole, more, cuts, low-part, high-part, both-parts, mod-multiple}
 use Rattle.record.proofs.Parts.{with-main, sub-main, sub-suc, the-sound, groups-even, groups-low}
 

@@ -11,17 +11,17 @@ use lib.Pow.{high}
 use lib.ListN.{length, drop, length-append}
 use lib.Seq.{drop-at}
 use borrow.Author.Tests.{le-leb}
-use Rattle.kinds.specs.Layout.{layout}
-use Rattle.kinds.specs.Groups.{named, groups-of, known, listed, flags-octets, set-length, optional, turned}
-use Rattle.wire.specs.Octets.{spelled}
-use Rattle.wire.specs.Answer.{given}
-use Rattle.values.specs.Record.{Formed, kept}
+use Rattle.record.specs.Layout.{layout}
+use Rattle.record.specs.Groups.{named, groups-of, known, listed, flags-octets, set-length, optional, turned}
+use Rattle.record.specs.Octets.{spelled}
+use Rattle.record.specs.Answer.{given}
+use Rattle.record.specs.Record.{Formed, kept}
 use Rattle.record.specs.Notification.{flags-of, names, heading, part-of, read-into, values, joined}
 use Rattle.record.specs.Split.{written, flags, octets}
-use Rattle.wire.proofs.OctetLaws.{length-spelled, number-spelled}
-use Rattle.kinds.proofs.Sets.{Sub, sub-of-and, sub-or, sub-or-l, sub-or-r, sub-same, sub-trans, and-of-sub, lowest-and, digit-lt}
-use Rattle.kinds.proofs.Tests.{passed, failed, tested, eqb-eq, eqb-ne}
-use Rattle.kinds.proofs.Tables.{Sound, sound, flags-least, listed-below}
+use Rattle.record.proofs.OctetLaws.{length-spelled, number-spelled}
+use Rattle.record.proofs.Sets.{Sub, sub-of-and, sub-or, sub-or-l, sub-or-r, sub-same, sub-trans, and-of-sub, lowest-and, digit-lt}
+use Rattle.record.proofs.Tests.{passed, failed, tested, eqb-eq, eqb-ne}
+use Rattle.record.proofs.Tables.{Sound, sound, flags-least, listed-below}
 use Rattle.record.proofs.Writing.{length-written}
 use Rattle.record.proofs.Kept.{read-written, fit-sub}
 

@@ -8,10 +8,10 @@ use native.Mathlib.Numerals.{add-one}
 use native.Mathlib.Omega.{arith}
 use lib.ListN.{length, getD, drop, set}
 use lib.Seq.{drop-cons, drop-drop}
-use Rattle.kinds.specs.declared.layout.Row.{Row}
-use Rattle.kinds.specs.Layout.{octets-of, no-row}
-use Rattle.kinds.specs.Groups.{has, named}
-use Rattle.wire.specs.Octets.{number}
+use Rattle.record.specs.declared.layout.Row.{Row}
+use Rattle.record.specs.Layout.{octets-of, no-row}
+use Rattle.record.specs.Groups.{has, named}
+use Rattle.record.specs.Octets.{number}
 use Rattle.record.specs.Notification.{read-into}
 
 module _ (r : Row) (rest : List Row) (s : List ℕ) (at : ℕ) (v : List ℕ) where

@@ -4,10 +4,10 @@ use mathlib.Core.Path.{_≡_}
 use mathlib.Core.Bool.{false}
 use native.Mathlib.Omega.{arith}
 use lib.Dec.{leb, eqb}
-use Rattle.kinds.specs.Groups.{set-length}
+use Rattle.record.specs.Groups.{set-length}
 use Rattle.record.specs.Split.{fits, longest, run}
-use Rattle.kinds.proofs.Tests.{passed, failed, tested, leb-le, leb-lt, eqb-eq, eqb-ne}
-use Rattle.kinds.proofs.Tables.{length-mono, length-none}
+use Rattle.record.proofs.Tests.{passed, failed, tested, leb-le, leb-lt, eqb-eq, eqb-ne}
+use Rattle.record.proofs.Tables.{length-mono, length-none}
 
 module _ (kind set room : ℕ) where
   -- the groups below the longest run's end fit

@@ -7,12 +7,12 @@ use native.Mathlib.Nat.{add-zero}
 use native.Mathlib.Numerals.{add-one}
 use lib.ListN.{length, getD, drop, length-append}
 use lib.Seq.{drop-cons}
-use Rattle.kinds.specs.declared.layout.Row.{Row}
-use Rattle.kinds.specs.Layout.{octets-of, no-row}
-use Rattle.kinds.specs.Groups.{has, named, size}
-use Rattle.wire.specs.Octets.{spelled, placed}
+use Rattle.record.specs.declared.layout.Row.{Row}
+use Rattle.record.specs.Layout.{octets-of, no-row}
+use Rattle.record.specs.Groups.{has, named, size}
+use Rattle.record.specs.Octets.{spelled, placed}
 use Rattle.record.specs.Split.{written}
-use Rattle.wire.proofs.OctetLaws.{length-spelled, placed-append}
+use Rattle.record.proofs.OctetLaws.{length-spelled, placed-append}
 
 module _ (r : Row) (rest : List Row) (v out : List ℕ) (at : ℕ) where
   write-row : (h : Bool) →

@@ -1,3 +1,10 @@
+pub mod Layout
+pub mod Groups
+pub mod Octets
+pub mod Refusal
+pub mod Answer
+pub mod Feature
+pub mod Record
 pub mod Notification
 pub mod Split
 pub mod Parts

@@ -5,15 +5,15 @@ use mathlib.Core.List.{List, [], _∷_}
 use lib.Bits.{bitAnd}
 use lib.Dec.{eqb, leb}
 use lib.ListN.{length, drop, set}
-use Rattle.kinds.specs.declared.layout.Row.{Row}
+use Rattle.record.specs.declared.layout.Row.{Row}
 use Rattle.record.specs.declared.notification.Part.{Part}
 use Rattle.record.specs.declared.notification.PartAnswer.{PartAnswer}
 use Rattle.record.specs.declared.notification.PartAnswer.the-variants.{Part as Named, Refused}
-use Rattle.kinds.specs.Layout.{layout, octets-of}
-use Rattle.kinds.specs.Groups.{named, known, listed, flags-octets, set-length, optional, turned}
-use Rattle.wire.specs.Octets.{number}
-use Rattle.wire.specs.Answer.{Answer, refused, given, provided, after}
-use Rattle.wire.specs.Refusal.{number-of}
+use Rattle.record.specs.Layout.{layout, octets-of}
+use Rattle.record.specs.Groups.{named, known, listed, flags-octets, set-length, optional, turned}
+use Rattle.record.specs.Octets.{number}
+use Rattle.record.specs.Answer.{Answer, refused, given, provided, after}
+use Rattle.record.specs.Refusal.{number-of}
 
 -- what each case of the answer means: this document's number, or the part's groups, whether it is the last, and its direction
 abbrev pub meant : PartAnswer → Answer Part

@@ -5,7 +5,7 @@ use mathlib.Core.Bool.{true}
 use mathlib.Core.List.{List}
 use lib.Dec.{eqb}
 use lib.ListN.{length, getD}
-use Rattle.kinds.specs.Groups.{has, flags-octets, set-length, optional}
+use Rattle.record.specs.Groups.{has, flags-octets, set-length, optional}
 
 -- the sets of the parts of a record with these groups, at a payload: bit 0 stands for the main group
 pub record PartsOf (kind groups payload : ℕ) (sets : List ℕ) : Type 0 where

@@ -4,17 +4,17 @@ use mathlib.Core.Bool.{Bool, cond, _&&_}
 use mathlib.Core.List.{List, [], _∷_, _++_}
 use lib.Dec.{leb, ltb}
 use lib.ListN.{length, getD}
-use Rattle.kinds.specs.declared.layout.Row.{Row}
-use Rattle.values.specs.declared.record.Record.{Record}
+use Rattle.record.specs.declared.layout.Row.{Row}
+use Rattle.record.specs.declared.record.Record.{Record}
 use Rattle.record.specs.declared.split.Extent.{Extent}
 use Rattle.record.specs.declared.split.SplitAnswer.{SplitAnswer}
 use Rattle.record.specs.declared.split.SplitAnswer.the-variants.{Part, Refused}
-use Rattle.kinds.specs.Layout.{layout, octets-of}
-use Rattle.kinds.specs.Groups.{named, known, flags-octets, set-length, turned}
-use Rattle.wire.specs.Octets.{spelled, over}
-use Rattle.values.specs.Record.{wire, formed}
-use Rattle.wire.specs.Answer.{Answer, refused, given, provided, after}
-use Rattle.wire.specs.Refusal.{number-of}
+use Rattle.record.specs.Layout.{layout, octets-of}
+use Rattle.record.specs.Groups.{named, known, flags-octets, set-length, turned}
+use Rattle.record.specs.Octets.{spelled, over}
+use Rattle.record.specs.Record.{wire, formed}
+use Rattle.record.specs.Answer.{Answer, refused, given, provided, after}
+use Rattle.record.specs.Refusal.{number-of}
 
 -- what each case of the answer means: this document's number, or the part's length and the number of parts
 abbrev pub meant : SplitAnswer → Answer Extent

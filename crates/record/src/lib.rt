@@ -1,12 +1,11 @@
-// The record layer: with it go the tables, what is below a record on the wire, and its values.
-pub use kinds::groups;
-pub use kinds::layout;
-pub use values::formed;
-pub use values::numbers;
-pub use values::record;
-pub use wire::feature;
-pub use wire::octets;
-pub use wire::refusal;
-
+// The record layer: the field tables, numbers in octets, records, reading and splitting them, the Feature value and the refusal numbers.
+pub mod feature;
+pub mod formed;
+pub mod groups;
+pub mod layout;
 pub mod notification;
+pub mod numbers;
+pub mod octets;
+pub mod record;
+pub mod refusal;
 pub mod split;

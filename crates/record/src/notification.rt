@@ -1,25 +1,25 @@
 // Reading a notification of a kind: what it says of itself, and its values, joined to values already held.
-use kinds::groups::flags_length;
-use kinds::groups::groups_length;
-use kinds::groups::has;
-use kinds::groups::is_known;
-use kinds::groups::listed;
-use kinds::layout::CROSS_TRAINER;
-use kinds::layout::Row;
-use kinds::layout::octets;
-use kinds::layout::row_count;
-use kinds::layout::row_of;
-use wire::octets::u16_at;
-use wire::octets::u24_at;
-use wire::octets::value_at;
-use wire::refusal::Refusal;
+use crate::groups::flags_length;
+use crate::groups::groups_length;
+use crate::groups::has;
+use crate::groups::is_known;
+use crate::groups::listed;
+use crate::layout::CROSS_TRAINER;
+use crate::layout::Row;
+use crate::layout::octets;
+use crate::layout::row_count;
+use crate::layout::row_of;
+use crate::octets::u16_at;
+use crate::octets::u24_at;
+use crate::octets::value_at;
+use crate::refusal::Refusal;
 ghost use mathlib.Core.Path.{_≡_};
 ghost use mathlib.Core.Bool.{cond};
 ghost use Prim.Native.Nat.{_+_, _<_};
 ghost use lib.ListN.{drop, set};
-ghost use Rattle.kinds.specs.Layout.{octets-of};
-ghost use Rattle.kinds.specs.Groups.{has as Groups·has};
-ghost use Rattle.wire.specs.Octets.{number};
+ghost use Rattle.record.specs.Layout.{octets-of};
+ghost use Rattle.record.specs.Groups.{has as Groups·has};
+ghost use Rattle.record.specs.Octets.{number};
 ghost use Rattle.record.specs.Notification.{meant, flags-of, names as Notification·names, heading as Notification·heading, part-of, values, held-after};
 
 // "30: notification above 512 octets".

@@ -6,9 +6,9 @@ use native.Mathlib.Numerals.{add-one}
 use native.Mathlib.Omega.{arith}
 use lib.ListN.{length, getD, take}
 use lib.Seq.{take-suc, take-all}
-use Rattle.kinds.specs.declared.layout.Row.{Row}
-use Rattle.kinds.specs.Layout.{octets-of}
-use Rattle.kinds.specs.Groups.{size}
+use Rattle.record.specs.declared.layout.Row.{Row}
+use Rattle.record.specs.Layout.{octets-of}
+use Rattle.record.specs.Groups.{size}
 use Rattle.reference.specs.Tables.{row-line, row-lines}
 use Rattle.text.specs.Text.{Wrote}
 use Rattle.text.proofs.Writing.{then}

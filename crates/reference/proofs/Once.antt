@@ -1,6 +1,6 @@
 -- No second reply and no second content of what is lent meets a contract: for each public function, over the contract itself.
 use denote.Ref.{now}
-use Rattle.kinds.proofs.Once.{Once, LeftOnce}
+use Rattle.record.proofs.Once.{Once, LeftOnce}
 use Rattle.text.proofs.Once.{wrote-once}
 use Rattle.reference.proofs.words.put_width.Reads as put-width
 use Rattle.reference.proofs.tables.put_table.Reads as put-table

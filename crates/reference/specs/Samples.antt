@@ -1,8 +1,8 @@
 -- Lines of the tables, by computation: document 01's order, widths and units, and the lengths of its own numbers.
 use mathlib.Core.Path.{_≡_, refl}
 use lib.ListN.{getD}
-use Rattle.kinds.specs.Layout.{layout, no-row, tables, treadmill, cross-trainer, step-climber, indoor-bike}
-use Rattle.kinds.specs.Groups.{has, named, size, groups-of, listed}
+use Rattle.record.specs.Layout.{layout, no-row, tables, treadmill, cross-trainer, step-climber, indoor-bike}
+use Rattle.record.specs.Groups.{has, named, size, groups-of, listed}
 use Rattle.text.specs.Names.{names, name, bare}
 use Rattle.text.specs.Text.{ascii, decimal}
 use Rattle.reference.specs.Tables.{group-word, row-names, row-place, row-line, kind-word, title, sizes}

@@ -5,11 +5,11 @@ use mathlib.Core.Bool.{cond}
 use mathlib.Core.List.{List, [], _∷_, _++_}
 use lib.Dec.{eqb, leb}
 use lib.ListN.{getD}
-use Rattle.kinds.specs.declared.layout.Row.{Row}
-use Rattle.kinds.specs.declared.layout.Width.{Width}
-use Rattle.kinds.specs.declared.layout.Width.the-variants.{U8, U16, U24, S16}
-use Rattle.kinds.specs.Layout.{layout, octets-of, inclination, ramp-angle, negative-gain, energy-per-minute, power-output}
-use Rattle.kinds.specs.Groups.{listed, flags-octets, set-length, group-length}
+use Rattle.record.specs.declared.layout.Row.{Row}
+use Rattle.record.specs.declared.layout.Width.{Width}
+use Rattle.record.specs.declared.layout.Width.the-variants.{U8, U16, U24, S16}
+use Rattle.record.specs.Layout.{layout, octets-of, inclination, ramp-angle, negative-gain, energy-per-minute, power-output}
+use Rattle.record.specs.Groups.{listed, flags-octets, set-length, group-length}
 use Rattle.text.specs.Text.{ascii, decimal}
 use Rattle.text.specs.Names.{bare}
 

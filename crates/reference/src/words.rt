@@ -1,13 +1,13 @@
 // The words in the cells of a table.
-use kinds::groups::group_length;
-use kinds::layout::ENERGY_PER_MINUTE;
-use kinds::layout::INCLINATION;
-use kinds::layout::NEGATIVE_GAIN;
-use kinds::layout::POWER_OUTPUT;
-use kinds::layout::RAMP_ANGLE;
-use kinds::layout::Row;
-use kinds::layout::Width;
-use kinds::layout::octets;
+use record::groups::group_length;
+use record::layout::ENERGY_PER_MINUTE;
+use record::layout::INCLINATION;
+use record::layout::NEGATIVE_GAIN;
+use record::layout::POWER_OUTPUT;
+use record::layout::RAMP_ANGLE;
+use record::layout::Row;
+use record::layout::Width;
+use record::layout::octets;
 use text::names::put_field;
 use text::text::put_bytes;
 ghost use Rattle.text.specs.Text.{Wrote, ascii};

@@ -3,11 +3,11 @@ use Prim.Native.Nat.{ℕ}
 use mathlib.Core.Path.{_≡_, refl, sym, ap, ap₂, _∙_}
 use mathlib.Core.Bool.{Bool}
 use native.Mathlib.Omega.{arith}
-use Rattle.values.specs.declared.record.Record.{Record}
-use Rattle.wire.specs.Refusal.{number-of}
-use Rattle.kinds.proofs.Once.{Once}
-use Rattle.wire.proofs.Once.{number-same, never}
-use Rattle.wire.proofs.RefusalLaws.{number-once}
+use Rattle.record.specs.declared.record.Record.{Record}
+use Rattle.record.specs.Refusal.{number-of}
+use Rattle.record.proofs.Once.{Once}
+use Rattle.record.proofs.Once.{number-same, never}
+use Rattle.record.proofs.RefusalLaws.{number-once}
 use Rattle.service.specs.declared.collector.Collection.{Collection}
 use Rattle.service.specs.declared.collector.Collected.{Collected}
 use Rattle.service.specs.declared.collector.Collected.the-variants as answers

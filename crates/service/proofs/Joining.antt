@@ -5,9 +5,9 @@ use mathlib.Core.Bool.{Bool, true, false, cond}
 use mathlib.Core.List.{List}
 use lib.Bits.{bitOr}
 use Rattle.record.specs.declared.notification.Part.{Part}
-use Rattle.wire.specs.Answer.{Answer, given, after}
+use Rattle.record.specs.Answer.{Answer, given, after}
 use Rattle.record.specs.Notification.{part-of, joined, held-after}
-use Rattle.values.specs.Record.{of-wire}
+use Rattle.record.specs.Record.{of-wire}
 use Rattle.service.specs.declared.collector.Collection.{Collection}
 use Rattle.service.specs.Collector.{waiting, handed, zeros, collection, empty, incomplete, outside, drops, refuses, joins, collect}
 
@@ -37,7 +37,7 @@ module _ (c : Collection) (p : Part) (s : List ℕ) (dropped : Bool) where
   hands l i = rw (l, i)
 
 module _ (c : Collection) (s : List ℕ) where
-  pub not-read : (n : ℕ) → part-of (c .kind) s ≡ Rattle.wire.specs.Answer.refused n → collect c s ≡ refuses c n
+  pub not-read : (n : ℕ) → part-of (c .kind) s ≡ Rattle.record.specs.Answer.refused n → collect c s ≡ refuses c n
   unfolding collect
   not-read n e = rw e
 

@@ -5,9 +5,9 @@ use mathlib.Core.Bool.{true, false}
 use native.Mathlib.Nat.{pow-suc}
 use native.Mathlib.Omega.{arith}
 use lib.Dec.{eqb}
-use Rattle.kinds.specs.Groups.{has}
-use Rattle.kinds.proofs.Sets.{has-zero, has-half, mod-digit}
-use Rattle.kinds.proofs.Tests.{eqb-false}
+use Rattle.record.specs.Groups.{has}
+use Rattle.record.proofs.Sets.{has-zero, has-half, mod-digit}
+use Rattle.record.proofs.Tests.{eqb-false}
 use Rattle.service.specs.Collector.{lowest}
 
 -- it is the bit below which there is none

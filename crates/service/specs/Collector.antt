@@ -6,13 +6,13 @@ use lib.Bits.{bitAnd, bitOr}
 use lib.Dec.{eqb, leb}
 use lib.ListN.{replicate}
 use Rattle.record.specs.declared.notification.Part.{Part}
-use Rattle.values.specs.declared.record.Record.{Record}
-use Rattle.wire.specs.Answer.{Answer, given, provided}
-use Rattle.wire.specs.Answer as Answer
-use Rattle.kinds.specs.Groups.{known, listed, within}
+use Rattle.record.specs.declared.record.Record.{Record}
+use Rattle.record.specs.Answer.{Answer, given, provided}
+use Rattle.record.specs.Answer as Answer
+use Rattle.record.specs.Groups.{known, listed, within}
 use Rattle.record.specs.Notification.{part-of, joined}
-use Rattle.values.specs.Record.{of-wire}
-use Rattle.wire.specs.Refusal.{number-of}
+use Rattle.record.specs.Record.{of-wire}
+use Rattle.record.specs.Refusal.{number-of}
 use Rattle.service.specs.declared.collector.Told.{Told}
 use Rattle.service.specs.declared.collector.Told.the-variants.{Open, Fixed}
 use Rattle.service.specs.declared.collector.Collection.{Collection}

@@ -1,21 +1,21 @@
 // Collecting the parts of records: one notification at a time, with the state by value.
-use kinds::groups::BITS;
-use kinds::groups::has;
-use kinds::groups::is_known;
-use kinds::groups::listed;
+use record::groups::BITS;
+use record::groups::has;
+use record::groups::is_known;
+use record::groups::listed;
 use record::notification::Part;
 use record::notification::PartAnswer;
 use record::notification::part_of;
 use record::notification::read;
-use values::numbers::record_of;
-use values::record::Record;
-use wire::refusal::Refusal;
+use record::numbers::record_of;
+use record::record::Record;
+use record::refusal::Refusal;
 ghost use mathlib.Core.Path.{_≡_};
 ghost use mathlib.Core.Bool.{cond, not};
 ghost use lib.Dec.{eqb};
-ghost use Rattle.wire.specs.Answer.{given};
+ghost use Rattle.record.specs.Answer.{given};
 ghost use Rattle.record.specs.Notification.{part-of};
-ghost use Rattle.wire.specs.Refusal.{number-of};
+ghost use Rattle.record.specs.Refusal.{number-of};
 ghost use Rattle.service.specs.Collector.{meant, meant-opening, refused, collection, zeros, empty, opens, told-known, lowest as Collector·lowest, drops as Collector·drops, outside as Collector·outside, incomplete as Collector·incomplete, joins, collect as Collector·collect};
 
 // "A collection is open (a kind) or fixed (a kind and a set)."

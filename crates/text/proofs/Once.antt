@@ -3,7 +3,7 @@ use Prim.Native.Nat.{ℕ}
 use mathlib.Core.Path.{_≡_, sym, _∙_}
 use mathlib.Core.List.{List}
 use denote.Ref.{now}
-use Rattle.kinds.proofs.Once.{Once, LeftOnce}
+use Rattle.record.proofs.Once.{Once, LeftOnce}
 use Rattle.text.specs.Text.{Wrote}
 use Rattle.text.proofs.text.put_byte.Reads as put-byte
 use Rattle.text.proofs.text.put_bytes.Reads as put-bytes

@@ -7,7 +7,7 @@ use native.Mathlib.Omega.{arith}
 use lib.Dec.{eqb, ltb, ltb→lt, eqb·suc-zero}
 use lib.ListN.{length, getD, set, length-set, List·getD-eq-default}
 use lib.Seq.{getD-set-same}
-use Rattle.wire.specs.Answer.{given}
+use Rattle.record.specs.Answer.{given}
 use Rattle.codes.specs.declared.ranges.Ranges.{Ranges}
 use Rattle.machine.specs.declared.machine.Machine.{Machine}
 use Rattle.machine.specs.declared.machine.Who.{Who}
@@ -19,7 +19,7 @@ use Rattle.console.specs.Control.Replies.{refusal-of}
 use Rattle.console.specs.Control.Calls.{opened, connects, disconnects, indicates, confirms, answers, writes}
 use Rattle.console.specs.Control.Point.{Call, connect, disconnect, confirm, indicate, service, Event, step, run}
 use Rattle.console.specs.Control.Laws.{Present, Sound, caller, Heard}
-use Rattle.kinds.proofs.Tests.{passed, failed, tested, eqb-eq, eqb-same, ltb-false, ltb-le, test-holds}
+use Rattle.record.proofs.Tests.{passed, failed, tested, eqb-eq, eqb-same, ltb-false, ltb-le, test-holds}
 use Rattle.console.proofs.ControlLaws.Kept.{sound-step, sound-after}
 
 -- ---- some call succeeds

@@ -8,9 +8,9 @@ use lib.Dec.{eqb}
 use lib.ListN.{length, getD, take, drop, length-drop}
 use lib.Seq.{take-all}
 use borrow.Author.Tests.{lt-ltb, le-ltb, eq-eqb, ne-eqb}
-use Rattle.wire.specs.declared.feature.Feature.{Feature}
-use Rattle.wire.specs.Answer.{Answer, refused, given}
-use Rattle.wire.specs.Feature.{feature-of}
+use Rattle.record.specs.declared.feature.Feature.{Feature}
+use Rattle.record.specs.Answer.{Answer, refused, given}
+use Rattle.record.specs.Feature.{feature-of}
 use Rattle.codes.specs.declared.ranges.Ranges.{Ranges}
 use Rattle.machine.specs.declared.machine.Machine.{Machine}
 use Rattle.machine.specs.declared.effects.Performed.{Performed}
@@ -25,7 +25,7 @@ use Rattle.console.specs.declared.control.Written.{Written}
 use Rattle.console.specs.declared.control.Outcome.the-variants.{Done}
 use Rattle.console.specs.Control.Replies.{refuses, responds, Says}
 use Rattle.console.specs.Control.Calls.{open-with, opened, answers, writes}
-use Rattle.kinds.proofs.Tests.{passed, failed, tested}
+use Rattle.record.proofs.Tests.{passed, failed, tested}
 
 -- ---- opening
 

@@ -1,7 +1,7 @@
 -- The worked cases hold, by computation.
 use mathlib.Core.Path.{_≡_, refl}
-use Rattle.kinds.specs.Groups.{has}
-use Rattle.wire.specs.Octets.{number}
+use Rattle.record.specs.Groups.{has}
+use Rattle.record.specs.Octets.{number}
 use Rattle.codes.specs.OpCodes.{row}
 use Rattle.machine.specs.Judging.{fit, result}
 use Rattle.console.specs.Control.Calls.{opened, connects, disconnects, indicates, confirms, writes}

@@ -7,8 +7,8 @@ use mathlib.Core.List.{List, []}
 use native.Mathlib.Omega.{arith}
 use lib.Dec.{eqb}
 use lib.ListN.{getD}
-use Rattle.wire.specs.Answer.{Answer}
-use Rattle.wire.specs.Octets.{number}
+use Rattle.record.specs.Answer.{Answer}
+use Rattle.record.specs.Octets.{number}
 use Rattle.machine.specs.declared.machine.Machine.{Machine}
 use Rattle.machine.specs.declared.machine.Who.{Who}
 use Rattle.machine.specs.declared.machine.Who.the-variants.{Nobody, Client}
@@ -22,7 +22,7 @@ use Rattle.console.specs.Control.Replies.{Reply, refusal-of, response-of
 use Rattle.console.specs.Control.Calls.{disconnects, writes}
 use Rattle.console.specs.Control.Point.{Call, disconnect, write, service, step}
 use Rattle.console.specs.Control.Laws.{caller, Unchanged, Spared}
-use Rattle.kinds.proofs.Tests.{passed, failed, tested, eqb-eq}
+use Rattle.record.proofs.Tests.{passed, failed, tested, eqb-eq}
 use Rattle.console.proofs.ControlLaws.Steps.{Stepped, refusal, connected, gone, indicated, confirmed, denied, granted, steps}
 
 pub is-client : (w : Who) (c : ℕ) → is w c ≡ true → w ≡ Client c

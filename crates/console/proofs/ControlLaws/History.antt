@@ -7,8 +7,8 @@ use mathlib.Core.List.{List, [], _∷_, _++_}
 use native.Mathlib.Omega.{arith}
 use lib.Dec.{eqb}
 use lib.ListN.{getD}
-use Rattle.wire.specs.declared.feature.Feature.{Feature}
-use Rattle.wire.specs.Answer.{Answer, refused, given}
+use Rattle.record.specs.declared.feature.Feature.{Feature}
+use Rattle.record.specs.Answer.{Answer, refused, given}
 use Rattle.codes.specs.declared.ranges.Ranges.{Ranges}
 use Rattle.machine.specs.declared.machine.Machine.{Machine}
 use Rattle.machine.specs.declared.machine.Who.{Who}
@@ -23,7 +23,7 @@ use Rattle.console.specs.Control.Replies.{Reply, reply, response-of}
 use Rattle.console.specs.Control.Calls.{opened, writes}
 use Rattle.console.specs.Control.Point.{Call, connect, disconnect, confirm, indicate, write, service, Event, step, run}
 use Rattle.console.specs.Control.Laws.{caller, succeeded, is-disconnect, ends, any, holder-by}
-use Rattle.kinds.proofs.Tests.{passed, failed, tested, eqb-eq, eqb-false, eqb-same}
+use Rattle.record.proofs.Tests.{passed, failed, tested, eqb-eq, eqb-false, eqb-same}
 use Rattle.console.proofs.ControlLaws.Steps.{Granted, Stepped, refusal, connected, gone, indicated, confirmed, denied, granted, steps}
 use Rattle.codes.proofs.Rule.{row-rule, row-op}
 use Rattle.console.proofs.ControlLaws.Kept.{opened-fresh}

@@ -7,10 +7,10 @@ use native.Mathlib.Omega.{arith}
 use lib.Dec.{eqb}
 use lib.ListN.{length, getD, set, length-set}
 use lib.Seq.{getD-set-same, getD-set-other, length-sets}
-use Rattle.wire.specs.declared.feature.Feature.{Feature}
-use Rattle.wire.specs.Feature.{feature-of}
-use Rattle.wire.specs.Answer.{Answer, refused, given}
-use Rattle.wire.specs.Octets.{number, placed}
+use Rattle.record.specs.declared.feature.Feature.{Feature}
+use Rattle.record.specs.Feature.{feature-of}
+use Rattle.record.specs.Answer.{Answer, refused, given}
+use Rattle.record.specs.Octets.{number, placed}
 use Rattle.codes.specs.declared.ranges.Ranges.{Ranges}
 use Rattle.machine.specs.declared.machine.Machine.{Machine}
 use Rattle.machine.specs.declared.machine.Who.{Who}
@@ -27,7 +27,7 @@ use Rattle.console.specs.Control.Replies.{Reply}
 use Rattle.console.specs.Control.Calls.{open-with, opened}
 use Rattle.console.specs.Control.Point.{Call, service, Event, step, run}
 use Rattle.console.specs.Control.Laws.{Present, Links, Right, at-zero, set-to, Sound}
-use Rattle.kinds.proofs.Tests.{passed, failed, tested, eqb-eq, eqb-ne, and-l, and-r}
+use Rattle.record.proofs.Tests.{passed, failed, tested, eqb-eq, eqb-ne, and-l, and-r}
 use Rattle.machine.proofs.Fits.{length-fit}
 use Rattle.console.proofs.ControlLaws.Places.{stored-same, stored-other, zero-at}
 use Rattle.console.proofs.ControlLaws.Steps.{Stepped, refusal, connected, gone, indicated, confirmed, denied, granted, steps}

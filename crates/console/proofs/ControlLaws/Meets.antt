@@ -6,10 +6,10 @@ use mathlib.Core.List.{List, [], _∷_}
 use native.Mathlib.Omega.{arith}
 use lib.IntN.{pos}
 use lib.ListN.{getD}
-use Rattle.wire.specs.declared.feature.Feature.{Feature}
-use Rattle.wire.specs.Answer.{Answer, refused, given}
-use Rattle.kinds.specs.Groups.{has}
-use Rattle.wire.specs.Octets.{number}
+use Rattle.record.specs.declared.feature.Feature.{Feature}
+use Rattle.record.specs.Answer.{Answer, refused, given}
+use Rattle.record.specs.Groups.{has}
+use Rattle.record.specs.Octets.{number}
 use Rattle.codes.specs.declared.ranges.Ranges.{Ranges}
 use Rattle.codes.specs.declared.ranges.SignedRange.{SignedRange}
 use Rattle.machine.specs.declared.machine.Machine.{Machine}

@@ -2,11 +2,11 @@
 use Prim.Native.Nat.{ℕ}
 use mathlib.Core.Path.{_≡_, refl, sym, ap}
 use mathlib.Core.List.{List}
-use Rattle.wire.specs.Answer.{Answer}
-use Rattle.wire.specs.Refusal.{number-of}
-use Rattle.kinds.proofs.Once.{Once, same}
-use Rattle.wire.proofs.Once.{number-same, never}
-use Rattle.wire.proofs.RefusalLaws.{number-once}
+use Rattle.record.specs.Answer.{Answer}
+use Rattle.record.specs.Refusal.{number-of}
+use Rattle.record.proofs.Once.{Once, same}
+use Rattle.record.proofs.Once.{number-same, never}
+use Rattle.record.proofs.RefusalLaws.{number-once}
 use Rattle.machine.specs.declared.machine.Machine.{Machine}
 use Rattle.console.specs.declared.control.Outcome.{Outcome}
 use Rattle.console.specs.declared.control.Outcome.the-variants.{Done, Refused}

@@ -7,7 +7,7 @@ use mathlib.Core.List.{List, [], _∷_}
 use lib.ListN.{getD}
 use base.Fml.{Lft}
 use denote.Ref.{RefT, now}
-use Rattle.wire.specs.Answer.{Answer, given}
+use Rattle.record.specs.Answer.{Answer, given}
 use Rattle.codes.specs.declared.ranges.Ranges.{Ranges}
 use Rattle.machine.specs.declared.machine.Machine.{Machine}
 use Rattle.machine.specs.declared.machine.Who.the-variants.{Client}

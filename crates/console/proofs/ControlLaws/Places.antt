@@ -8,7 +8,7 @@ use native.Mathlib.Omega.{arith}
 use lib.Dec.{eqb, leb, leb→le}
 use lib.ListN.{length, take, drop, set, replicate}
 use lib.Seq.{sets-eq, take-at, drop-at, length-take-le, take-set-le, drop-set-lt, drop-set-add}
-use Rattle.wire.specs.Octets.{placed}
+use Rattle.record.specs.Octets.{placed}
 use Rattle.machine.specs.declared.machine.Machine.{Machine}
 use Rattle.codes.specs.declared.op_codes.Act.{Act}
 use Rattle.codes.specs.declared.op_codes.Act.the-variants.{TakesControl, Resets, Starts, Halts, Stores, Nothing}
@@ -17,8 +17,8 @@ use Rattle.codes.specs.Parameters.{size}
 use Rattle.machine.specs.Machine.{storing}
 use Rattle.machine.specs.Effects.{part, setting}
 use Rattle.console.specs.Control.Laws.{zero-setting}
-use Rattle.kinds.proofs.Tests.{test-holds, eqb-false}
-use Rattle.kinds.proofs.Tests.{all}
+use Rattle.record.proofs.Tests.{test-holds, eqb-false}
+use Rattle.record.proofs.Tests.{all}
 use Rattle.codes.proofs.Rule.{row-rule, row-op, place-fits}
 
 -- ---- octets from a place on, where others are written before or after them, or over them

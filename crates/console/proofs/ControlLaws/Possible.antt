@@ -7,11 +7,11 @@ use native.Mathlib.Omega.{arith}
 use lib.Dec.{eqb, lit≤}
 use denote.Ref.{RefT}
 use lib.ListN.{length, getD, List·getD-map}
-use Rattle.wire.specs.Answer.{Answer, refused}
-use Rattle.wire.specs.declared.refusal.Refusal.{Refusal}
-use Rattle.wire.specs.declared.refusal.Refusal.the-variants.{ClientAboveThree, UnknownKind, PayloadOutOfRange, NotWellFormed, OutputTooShort, NoSuchPart, RangeReversed, NotConnected, EmptyWrite, IndicationsOff, ResponseAwaited, NothingDue, NotEightOctets}
-use Rattle.wire.specs.Refusal.{number-of}
-use Rattle.wire.specs.Feature.{named, words}
+use Rattle.record.specs.Answer.{Answer, refused}
+use Rattle.record.specs.declared.refusal.Refusal.{Refusal}
+use Rattle.record.specs.declared.refusal.Refusal.the-variants.{ClientAboveThree, UnknownKind, PayloadOutOfRange, NotWellFormed, OutputTooShort, NoSuchPart, RangeReversed, NotConnected, EmptyWrite, IndicationsOff, ResponseAwaited, NothingDue, NotEightOctets}
+use Rattle.record.specs.Refusal.{number-of}
+use Rattle.record.specs.Feature.{named, words}
 use Rattle.codes.specs.declared.ranges.Ranges.{Ranges}
 use Rattle.machine.specs.declared.machine.Machine.{Machine}
 use Rattle.console.specs.declared.control.Outcome.the-variants.{Done, Refused}
@@ -24,7 +24,7 @@ use Rattle.machine.specs.Octets.{boxed}
 use Rattle.console.specs.Control.Replies.{Reply, refuses, responds, accepts, meant-moved, Opens, Says}
 use Rattle.console.specs.Control.Calls.{opened, connects, disconnects, indicates, confirms, writes}
 use Rattle.console.specs.Control.Point.{Call, connect, disconnect, confirm, indicate, write, service, step}
-use Rattle.kinds.proofs.Tests.{passed, failed, tested}
+use Rattle.record.proofs.Tests.{passed, failed, tested}
 use Rattle.machine.proofs.Boxes.{counts}
 use Rattle.console.proofs.ControlLaws.Answers.{opens-22, opens-16, opens-with}
 use Rattle.console.proofs.ControlLaws.Steps.{Stepped, refusal, connected, gone, indicated, confirmed, denied, granted, steps}

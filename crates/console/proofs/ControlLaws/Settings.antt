@@ -6,8 +6,8 @@ use mathlib.Core.List.{List, [], _∷_}
 use native.Mathlib.Omega.{arith}
 use lib.Dec.{eqb}
 use lib.ListN.{getD}
-use Rattle.wire.specs.declared.feature.Feature.{Feature}
-use Rattle.wire.specs.Answer.{Answer, given}
+use Rattle.record.specs.declared.feature.Feature.{Feature}
+use Rattle.record.specs.Answer.{Answer, given}
 use Rattle.codes.specs.declared.ranges.Ranges.{Ranges}
 use Rattle.machine.specs.declared.machine.Machine.{Machine}
 use Rattle.machine.specs.declared.machine.Who.the-variants.{Client}
@@ -21,7 +21,7 @@ use Rattle.console.specs.Control.Replies.{Reply, response-of}
 use Rattle.console.specs.Control.Calls.{opened, writes}
 use Rattle.console.specs.Control.Point.{Call, write, service, Event, step, run}
 use Rattle.console.specs.Control.Laws.{Sound, zero-setting, parameter, succeeded, setting-by}
-use Rattle.kinds.proofs.Tests.{passed, failed, tested, eqb-eq, eqb-ne, eqb-false}
+use Rattle.record.proofs.Tests.{passed, failed, tested, eqb-eq, eqb-ne, eqb-false}
 use Rattle.codes.proofs.Rule.{row-rule, row-op}
 use Rattle.machine.proofs.Fits.{length-fit}
 use Rattle.console.proofs.ControlLaws.Steps.{Stepped, refusal, connected, gone, indicated, confirmed, denied, granted, steps}

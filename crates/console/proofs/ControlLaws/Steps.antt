@@ -6,8 +6,8 @@ use mathlib.Core.List.{List, [], _∷_, _++_}
 use native.Mathlib.Omega.{arith}
 use lib.Dec.{eqb, ltb, lit≤, eqb·suc-zero}
 use lib.ListN.{length, set}
-use Rattle.wire.specs.Answer.{Answer}
-use Rattle.wire.specs.Octets.{number}
+use Rattle.record.specs.Answer.{Answer}
+use Rattle.record.specs.Octets.{number}
 use Rattle.machine.specs.declared.machine.Machine.{Machine}
 use Rattle.machine.specs.declared.machine.Who.the-variants.{Nobody, Client}
 use Rattle.codes.specs.OpCodes.{row}
@@ -18,7 +18,7 @@ use Rattle.console.specs.Control.Replies.{Reply, reply, refuses, accepts
 use Rattle.console.specs.Control.Calls.{connects, disconnects, indicates, confirms, answers, writes}
 use Rattle.console.specs.Control.Point.{Call, connect, disconnect, confirm, indicate, write, service, step}
 use Rattle.console.specs.Control.Laws.{Heard}
-use Rattle.kinds.proofs.Tests.{passed, failed, tested, eqb-false, ltb-le}
+use Rattle.record.proofs.Tests.{passed, failed, tested, eqb-false, ltb-le}
 
 -- what must hold of a write that succeeds
 pub record Granted (m : Machine) (c o : ℕ) (p : List ℕ) : Type 0 where

@@ -4,9 +4,9 @@ use mathlib.Core.Bool.{Bool, true, false, cond, not}
 use mathlib.Core.List.{List, [], _∷_, _++_}
 use lib.Dec.{eqb, ltb}
 use lib.ListN.{length, getD, set, drop}
-use Rattle.wire.specs.declared.feature.Feature.{Feature}
-use Rattle.wire.specs.Answer.{Answer, refused, given, provided}
-use Rattle.wire.specs.Feature.{feature-of}
+use Rattle.record.specs.declared.feature.Feature.{Feature}
+use Rattle.record.specs.Answer.{Answer, refused, given, provided}
+use Rattle.record.specs.Feature.{feature-of}
 use Rattle.codes.specs.declared.ranges.Ranges.{Ranges}
 use Rattle.machine.specs.declared.machine.Machine.{Machine}
 use Rattle.machine.specs.declared.machine.Who.the-variants.{Nobody, Client}

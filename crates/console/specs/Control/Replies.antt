@@ -3,8 +3,8 @@ use Prim.Native.Nat.{ℕ}
 use mathlib.Core.Path.{_≡_}
 use mathlib.Core.List.{List, []}
 use lib.ListN.{replicate}
-use Rattle.wire.specs.Answer.{Answer, refused, given}
-use Rattle.wire.specs.Refusal.{number-of}
+use Rattle.record.specs.Answer.{Answer, refused, given}
+use Rattle.record.specs.Refusal.{number-of}
 use Rattle.machine.specs.declared.machine.Machine.{Machine}
 use Rattle.console.specs.declared.control.Outcome.{Outcome}
 use Rattle.console.specs.declared.control.Outcome.the-variants as outcome

@@ -5,8 +5,8 @@ use mathlib.Core.Bool.{Bool, true, false}
 use native.Mathlib.Omega.{arith}
 use borrow.Author.Needs.{needs}
 use borrow.Author.Tests.{not-true, not-false}
-use Rattle.values.specs.declared.record.Record.{Record}
-use Rattle.values.specs.Record.{well-formed}
+use Rattle.record.specs.declared.record.Record.{Record}
+use Rattle.record.specs.Record.{well-formed}
 use Rattle.record.specs.Split.{payload-known, part-octets}
 use Rattle.record.proofs.Again.{record-parts}
 use Rattle.service.specs.Collector.{waiting, handed, refused, meant, collect}

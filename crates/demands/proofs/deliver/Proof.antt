@@ -5,7 +5,7 @@ use native.Mathlib.Omega.{arith}
 use borrow.Author.Needs.{needs}
 use lib.ListN.{length, take, length-take}
 use Rattle.record.specs.declared.split.Extent.{Extent}
-use Rattle.wire.specs.Answer.{Answer, refused, given}
+use Rattle.record.specs.Answer.{Answer, refused, given}
 use Rattle.record.specs.Split.{meant, split-of, part-octets, sets-of}
 use Rattle.service.specs.Collector.{Stepped, collect}
 use Rattle.demands.specs.Behaviour.{length-of, buffer}

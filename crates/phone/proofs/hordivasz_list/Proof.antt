@@ -3,7 +3,7 @@ use Prim.Native.Nat.{ℕ}
 use mathlib.Core.Path.{ap, _∙_}
 use borrow.Author.Needs.{needs}
 use denote.Ref.{now}
-use Rattle.wire.specs.Answer.{Answer}
+use Rattle.record.specs.Answer.{Answer}
 use Rattle.phone.specs.Host.{code, told}
 use Rattle.phone.proofs.hordivasz_list.Statement.{statement}
 use Rattle.phone.proofs.hordivasz_list.Tie as tie

@@ -2,7 +2,7 @@
 use mathlib.Core.Path.{ap, _∙_}
 use borrow.Author.Needs.{needs}
 use denote.Ref.{now}
-use Rattle.wire.specs.Answer.{Answer}
+use Rattle.record.specs.Answer.{Answer}
 use Rattle.record.specs.declared.split.Extent.{Extent}
 use Rattle.phone.specs.Host.{code, told}
 use Rattle.phone.proofs.hordivasz_split.Statement.{statement}

@@ -1,7 +1,7 @@
 -- `width_of` meets its contract: in each arm the numbers are known. Assumes nothing.
 use mathlib.Core.Path.{_∙_}
 use borrow.Author.Needs.{needs}
-use Rattle.kinds.specs.declared.layout.Width.the-variants.{U16}
+use Rattle.record.specs.declared.layout.Width.the-variants.{U16}
 use Rattle.codes.proofs.Widths.{copies, simulation, number-of}
 use Rattle.codes.proofs.parameters.width_of.Statement.{statement}
 use Rattle.codes.proofs.parameters.width_of.Tie as tie

@@ -2,8 +2,8 @@
 use mathlib.Core.Path.{refl, sym, ap, _∙_}
 use borrow.Author.Needs.{needs}
 use denote.Ref.{now}
-use Rattle.wire.specs.Answer.{given}
-use Rattle.wire.specs.Feature.{meant}
+use Rattle.record.specs.Answer.{given}
+use Rattle.record.specs.Feature.{meant}
 use Rattle.console.proofs.ControlLaws.Answers.{opens-22, opens-16, opens-with}
 use Rattle.console.proofs.control.open.Statement.{statement}
 use Rattle.console.proofs.control.open.Tie as tie

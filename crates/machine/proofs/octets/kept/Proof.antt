@@ -6,7 +6,7 @@ use native.Mathlib.Omega.{arith}
 use borrow.Author.Needs.{needs}
 use lib.ListN.{length, take, drop, replicate, length-drop}
 use lib.Seq.{length-take-le}
-use Rattle.wire.specs.Octets.{placed}
+use Rattle.record.specs.Octets.{placed}
 use Rattle.machine.proofs.Boxes.{boxes}
 use Rattle.machine.proofs.octets.kept.Statement.{statement}
 use Rattle.machine.proofs.octets.kept.Tie as tie

@@ -9,7 +9,7 @@ use borrow.Author.Needs.{needs}
 use denote.Ref.{now}
 use lib.ListN.{length, getD, drop, length-set, drop-of-length-le}
 use lib.Seq.{drop-cons}
-use Rattle.wire.specs.Octets.{placed}
+use Rattle.record.specs.Octets.{placed}
 use Rattle.machine.proofs.octets.put.Statement.{statement}
 use Rattle.machine.proofs.octets.put.Tie as tie
 

@@ -6,7 +6,7 @@ use native.Mathlib.Omega.{arith}
 use borrow.Author.Needs.{needs}
 use borrow.Author.Tests.{leb-true, not-true, not-false}
 use lib.Dec.{leb}
-use Rattle.kinds.specs.Groups.{known}
+use Rattle.record.specs.Groups.{known}
 use Rattle.record.specs.Split.{payload-known}
 use Rattle.phone.specs.Host.{split-answer}
 use Rattle.phone.proofs.split.split_any.Statement.{statement}

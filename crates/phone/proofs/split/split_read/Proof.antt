@@ -3,8 +3,8 @@ use mathlib.Core.Path.{_≡_, refl, sym, ap, _∙_}
 use borrow.Author.Needs.{needs}
 use denote.Ref.{now}
 use Rattle.record.specs.declared.notification.Part.{Part}
-use Rattle.wire.specs.Answer.{Answer, given, refused, after}
-use Rattle.wire.specs.Refusal.{number-of}
+use Rattle.record.specs.Answer.{Answer, given, refused, after}
+use Rattle.record.specs.Refusal.{number-of}
 use Rattle.record.specs.Notification.{meant, part-of, joined}
 use Rattle.service.specs.Collector.{zeros}
 use Rattle.phone.proofs.split.split_read.Statement.{statement}

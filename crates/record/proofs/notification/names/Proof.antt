@@ -4,8 +4,8 @@ use mathlib.Core.Path.{_≡_, ap₂}
 use native.Mathlib.Omega.{arith}
 use borrow.Author.Needs.{needs}
 use lib.Bits.{bitAnd}
-use Rattle.kinds.specs.Groups.{listed, turned}
-use Rattle.kinds.proofs.Tables.{listed-below}
+use Rattle.record.specs.Groups.{listed, turned}
+use Rattle.record.proofs.Tables.{listed-below}
 use Rattle.record.proofs.notification.names.Statement.{statement}
 use Rattle.record.proofs.notification.names.Tie as tie
 

@@ -8,9 +8,9 @@ use borrow.Author.Tests.{le-leb, lt-leb, not-true, not-false}
 use denote.Ref.{now}
 use lib.Dec.{leb}
 use lib.ListN.{length}
-use Rattle.kinds.specs.Groups.{known, flags-octets, set-length}
+use Rattle.record.specs.Groups.{known, flags-octets, set-length}
 use Rattle.record.specs.Notification.{part-of, flags-of, names, heading}
-use Rattle.kinds.proofs.Tables.{octets-most, flags-most}
+use Rattle.record.proofs.Tables.{octets-most, flags-most}
 use Rattle.record.proofs.notification.part_of.Statement.{statement}
 use Rattle.record.proofs.notification.part_of.Tie as tie
 

@@ -4,7 +4,7 @@ use Prim.Native.Nat.{ℕ}
 use borrow.Author.Needs.{needs}
 use denote.Ref.{now}
 use Rattle.record.specs.declared.notification.Part.{Part}
-use Rattle.wire.specs.Answer.{Answer, after}
+use Rattle.record.specs.Answer.{Answer, after}
 use Rattle.record.specs.Notification.{meant, joined, values, names}
 use Rattle.record.proofs.notification.read.Statement.{statement}
 use Rattle.record.proofs.notification.read.Tie as tie

@@ -7,9 +7,9 @@ use native.Mathlib.Omega.{arith}
 use borrow.Author.Needs.{needs}
 use denote.Ref.{now}
 use lib.ListN.{set}
-use Rattle.kinds.specs.Layout.{octets-of}
-use Rattle.kinds.specs.Groups.{has}
-use Rattle.kinds.proofs.Tables.{width-most}
+use Rattle.record.specs.Layout.{octets-of}
+use Rattle.record.specs.Groups.{has}
+use Rattle.record.proofs.Tables.{width-most}
 use Rattle.record.proofs.notification.read_row.Statement.{statement}
 use Rattle.record.proofs.notification.read_row.Tie as tie
 

@@ -6,11 +6,11 @@ use borrow.Author.Needs.{needs}
 use denote.Ref.{now}
 use mathlib.Core.List.{[]}
 use lib.ListN.{length, getD, drop, drop-of-length-le}
-use Rattle.kinds.specs.Layout.{layout, octets-of, no-row}
-use Rattle.kinds.specs.Groups.{has, named, flags-octets}
+use Rattle.record.specs.Layout.{layout, octets-of, no-row}
+use Rattle.record.specs.Groups.{has, named, flags-octets}
 use Rattle.record.specs.Notification.{read-into, values}
 use Rattle.record.proofs.Reading.{read-next, read-none, taken-most}
-use Rattle.kinds.proofs.Tables.{field-below, rows-most, flags-most, width-most}
+use Rattle.record.proofs.Tables.{field-below, rows-most, flags-most, width-most}
 use Rattle.record.proofs.notification.read_rows.Statement.{statement}
 use Rattle.record.proofs.notification.read_rows.Tie as tie
 

@@ -6,11 +6,11 @@ use native.Mathlib.Nat.{zero-add}
 use borrow.Author.Needs.{needs}
 use denote.Ref.{now}
 use lib.ListN.{length}
-use Rattle.kinds.specs.Layout.{layout}
-use Rattle.kinds.specs.Groups.{named, flags-octets}
-use Rattle.wire.specs.Octets.{spelled, placed}
+use Rattle.record.specs.Layout.{layout}
+use Rattle.record.specs.Groups.{named, flags-octets}
+use Rattle.record.specs.Octets.{spelled, placed}
 use Rattle.record.specs.Split.{written, flags}
-use Rattle.wire.proofs.OctetLaws.{length-spelled, placed-append}
+use Rattle.record.proofs.OctetLaws.{length-spelled, placed-append}
 use Rattle.record.proofs.split.put_part.Statement.{statement}
 use Rattle.record.proofs.split.put_part.Tie as tie
 

@@ -5,9 +5,9 @@ use mathlib.Core.Bool.{true, false}
 use native.Mathlib.Nat.{add-zero}
 use native.Mathlib.Omega.{arith}
 use borrow.Author.Needs.{needs}
-use Rattle.kinds.specs.Layout.{octets-of}
-use Rattle.kinds.specs.Groups.{has}
-use Rattle.kinds.proofs.Tables.{width-most}
+use Rattle.record.specs.Layout.{octets-of}
+use Rattle.record.specs.Groups.{has}
+use Rattle.record.proofs.Tables.{width-most}
 use Rattle.record.proofs.split.put_row.Statement.{statement}
 use Rattle.record.proofs.split.put_row.Tie as tie
 

@@ -6,13 +6,13 @@ use native.Mathlib.Omega.{arith}
 use borrow.Author.Needs.{needs}
 use denote.Ref.{now}
 use lib.ListN.{length, getD, drop, drop-of-length-le}
-use Rattle.kinds.specs.Layout.{layout, octets-of, no-row}
-use Rattle.kinds.specs.Groups.{has, named, flags-octets}
-use Rattle.wire.specs.Octets.{placed}
+use Rattle.record.specs.Layout.{layout, octets-of, no-row}
+use Rattle.record.specs.Groups.{has, named, flags-octets}
+use Rattle.record.specs.Octets.{placed}
 use Rattle.record.specs.Split.{written}
 use Rattle.record.proofs.Reading.{taken-most}
 use Rattle.record.proofs.Writing.{write-next, write-none}
-use Rattle.kinds.proofs.Tables.{field-below, rows-most, flags-most, width-most}
+use Rattle.record.proofs.Tables.{field-below, rows-most, flags-most, width-most}
 use Rattle.record.proofs.split.put_rows.Statement.{statement}
 use Rattle.record.proofs.split.put_rows.Tie as tie
 

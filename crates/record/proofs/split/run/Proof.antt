@@ -5,9 +5,9 @@ use mathlib.Core.Logic.{⊎-elim}
 use native.Mathlib.Nat.{mod-one, mod-le}
 use native.Mathlib.Omega.{arith}
 use borrow.Author.Needs.{needs}
-use Rattle.kinds.specs.Groups.{has, set-length}
-use Rattle.kinds.proofs.Sets.{mod-next, mod-stays, one-bit}
-use Rattle.kinds.proofs.Tables.{octets-most, length-none, length-next, length-stays}
+use Rattle.record.specs.Groups.{has, set-length}
+use Rattle.record.proofs.Sets.{mod-next, mod-stays, one-bit}
+use Rattle.record.proofs.Tables.{octets-most, length-none, length-next, length-stays}
 use Rattle.record.proofs.Runs.{run-stops, run-whole}
 use Rattle.record.proofs.split.run.Statement.{statement}
 use Rattle.record.proofs.split.run.Tie as tie

@@ -7,11 +7,11 @@ use borrow.Author.Needs.{needs}
 use borrow.Author.Tests.{leb-true, not-true, not-false}
 use denote.Ref.{now}
 use lib.Dec.{leb}
-use Rattle.kinds.specs.Groups.{known}
-use Rattle.values.specs.Record.{formed}
+use Rattle.record.specs.Groups.{known}
+use Rattle.record.specs.Record.{formed}
 use Rattle.record.specs.Split.{payload-known, split-wire}
-use Rattle.kinds.proofs.Tests.{and-l}
-use Rattle.values.proofs.Records.{formed-listed, formed-way}
+use Rattle.record.proofs.Tests.{and-l}
+use Rattle.record.proofs.Records.{formed-listed, formed-way}
 use Rattle.record.proofs.Parts.{listed-groups-low, listed-groups-even}
 use Rattle.record.proofs.split.split_numbers.Statement.{statement}
 use Rattle.record.proofs.split.split_numbers.Tie as tie

@@ -9,11 +9,11 @@ use borrow.Author.Tests.{lt-ltb, le-ltb, le-leb, lt-leb}
 use denote.Ref.{now}
 use lib.Dec.{ltb, leb}
 use lib.ListN.{length, getD}
-use Rattle.kinds.specs.Groups.{flags-octets, set-length}
-use Rattle.wire.specs.Octets.{placed}
+use Rattle.record.specs.Groups.{flags-octets, set-length}
+use Rattle.record.specs.Octets.{placed}
 use Rattle.record.specs.Split.{cut, sets-of, set-at, octets, extent-of}
-use Rattle.wire.proofs.OctetLaws.{placed-over}
-use Rattle.kinds.proofs.Tables.{flags-most, octets-most}
+use Rattle.record.proofs.OctetLaws.{placed-over}
+use Rattle.record.proofs.Tables.{flags-most, octets-most}
 use Rattle.record.proofs.Steps.{cut-most}
 use Rattle.record.proofs.Parts.{octets-length}
 use Rattle.record.proofs.split.write_part.Statement.{statement}

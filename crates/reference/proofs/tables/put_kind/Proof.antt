@@ -4,7 +4,7 @@ use mathlib.Core.Path.{_≡_, refl}
 use native.Mathlib.Omega.{arith}
 use borrow.Author.Needs.{needs}
 use lib.ListN.{List·getD-eq-default}
-use Rattle.kinds.proofs.Arms.{NoneOf, past}
+use Rattle.record.proofs.Arms.{NoneOf, past}
 use Rattle.reference.specs.Tables.{kind-words, kind-word}
 use Rattle.text.proofs.Writing.{nothing}
 use Rattle.reference.proofs.tables.put_kind.Statement.{statement}

@@ -2,8 +2,8 @@
 use Prim.Native.Nat.{_+_, _<_, _≤_}
 use mathlib.Core.Path.{_≡_, ap, _∙_}
 use borrow.Author.Needs.{needs}
-use Rattle.kinds.specs.Groups.{listed, flags-octets, set-length}
-use Rattle.kinds.proofs.Tables.{listed-below, octets-most, flags-most}
+use Rattle.record.specs.Groups.{listed, flags-octets, set-length}
+use Rattle.record.proofs.Tables.{listed-below, octets-most, flags-most}
 use Rattle.reference.specs.Tables.{sizes}
 use Rattle.text.proofs.Writing.{then}
 use Rattle.reference.proofs.tables.put_sizes.Statement.{statement}

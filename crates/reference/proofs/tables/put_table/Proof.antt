@@ -5,9 +5,9 @@ use mathlib.Core.Path.{_≡_, refl}
 use native.Mathlib.Omega.{arith}
 use borrow.Author.Needs.{needs}
 use lib.ListN.{length, take}
-use Rattle.kinds.specs.Groups.{size, flags-octets}
-use Rattle.kinds.specs.Layout.{layout, no-row}
-use Rattle.kinds.proofs.Tables.{rows-most, flags-most, width-most}
+use Rattle.record.specs.Groups.{size, flags-octets}
+use Rattle.record.specs.Layout.{layout, no-row}
+use Rattle.record.proofs.Tables.{rows-most, flags-most, width-most}
 use Rattle.reference.specs.Tables.{row-lines, table}
 use Rattle.reference.proofs.Lines.{next-line, next-size, all-lines}
 use Rattle.text.specs.Text.{Wrote}

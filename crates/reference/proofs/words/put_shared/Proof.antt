@@ -1,6 +1,6 @@
 -- `put_shared` meets its contract. Assumes nothing.
 use borrow.Author.Needs.{needs}
-use Rattle.kinds.proofs.Tests.{leb-true, leb-false}
+use Rattle.record.proofs.Tests.{leb-true, leb-false}
 use Rattle.reference.proofs.words.put_shared.Statement.{statement}
 use Rattle.reference.proofs.words.put_shared.Tie as tie
 

@@ -2,7 +2,7 @@
 use native.Mathlib.Omega.{arith}
 use borrow.Author.Needs.{needs}
 use borrow.Author.Tests.{eq-eqb, ne-eqb}
-use Rattle.kinds.specs.Layout.{inclination, ramp-angle}
+use Rattle.record.specs.Layout.{inclination, ramp-angle}
 use Rattle.text.proofs.Writing.{nothing}
 use Rattle.reference.proofs.words.put_unit.Statement.{statement}
 use Rattle.reference.proofs.words.put_unit.Tie as tie

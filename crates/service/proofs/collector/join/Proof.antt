@@ -8,7 +8,7 @@ use borrow.Author.Tests.{not-true, not-false}
 use denote.Ref.{now}
 use lib.Bits.{bitOr}
 use Rattle.record.specs.Notification.{held-after}
-use Rattle.values.specs.Record.{of-wire}
+use Rattle.record.specs.Record.{of-wire}
 use Rattle.service.specs.declared.collector.Collection.{Collection}
 use Rattle.service.specs.Collector.{waiting, handed, Stepped, zeros, collection, incomplete, drops}
 use Rattle.service.proofs.Joining.{read-joins, held-now, numbers-now, waits, lacks, hands}

@@ -4,7 +4,7 @@ use mathlib.Core.Path.{_≡_, sym, ap, _∙_}
 use native.Mathlib.Nat.{mod-one}
 use native.Mathlib.Omega.{arith}
 use borrow.Author.Needs.{needs}
-use Rattle.kinds.proofs.Sets.{one-bit, mod-stays}
+use Rattle.record.proofs.Sets.{one-bit, mod-stays}
 use Rattle.service.proofs.Lowest.{lowest-at, lowest-none}
 use Rattle.service.proofs.collector.lowest.Statement.{statement}
 use Rattle.service.proofs.collector.lowest.Tie as tie

@@ -3,7 +3,7 @@ use mathlib.Core.Path.{_≡_, refl, sym, _∙_}
 use mathlib.Core.Bool.{true, false}
 use borrow.Author.Needs.{needs}
 use borrow.Author.Tests.{not-true, not-false}
-use Rattle.kinds.specs.Groups.{known}
+use Rattle.record.specs.Groups.{known}
 use Rattle.service.specs.Collector.{opens, told-known}
 use Rattle.service.proofs.collector.open.Statement.{statement}
 use Rattle.service.proofs.collector.open.Tie as tie

@@ -4,9 +4,9 @@ use mathlib.Core.Path.{_≡_, sym, ap, ap₂, _∙_}
 use mathlib.Core.List.{List}
 use borrow.Author.Needs.{needs}
 use denote.Ref.{now}
-use Rattle.wire.specs.Answer.{given}
+use Rattle.record.specs.Answer.{given}
 use Rattle.record.specs.Notification as Notification
-use Rattle.wire.specs.Refusal.{number-of}
+use Rattle.record.specs.Refusal.{number-of}
 use Rattle.service.specs.declared.collector.Collection.{Collection}
 use Rattle.service.specs.Collector.{Stepped, collection}
 use Rattle.service.proofs.Joining.{not-read, not-told, taken}

@@ -1,2 +1,0 @@
-// An entry of a listing: the lines of a record, and of a refusal.
-pub mod lines;

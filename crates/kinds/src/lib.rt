@@ -1,3 +1,0 @@
-// The tables of the kinds.
-pub mod groups;
-pub mod layout;

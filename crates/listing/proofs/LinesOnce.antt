@@ -1,0 +1,14 @@
+-- No second reply and no second content of what is lent meets a contract: for each public function, over the contract itself.
+use denote.Ref.{now}
+use Rattle.record.proofs.Once.{Once, LeftOnce}
+use Rattle.text.proofs.Once.{wrote-once}
+use Rattle.listing.proofs.lines.put_record.Reads as put-record
+use Rattle.listing.proofs.lines.put_refused.Reads as put-refused
+
+pub lines-once :
+    (Once put-record.Post × LeftOnce put-record.Post (λ κs s. now (s .0))) ×
+    (Once put-refused.Post × LeftOnce put-refused.Post (λ κs s. now (s .0)))
+lines-once = (
+  (λ κs a x y s t p q. wrote-once _ _ _ _ _ _ _ p q .0, λ κs a x y s t p q. wrote-once _ _ _ _ _ _ _ p q .1),
+  (λ κs a x y s t p q. wrote-once _ _ _ _ _ _ _ p q .0, λ κs a x y s t p q. wrote-once _ _ _ _ _ _ _ p q .1),
+)

@@ -1,0 +1,154 @@
+// Numbers in octets, least octet first, read from and written to a slice. Each call is total: an octet past the end reads as 0 and is not written.
+use crate::layout::Width;
+ghost use mathlib.Core.Path.{_≡_};
+ghost use lib.ListN.{drop};
+ghost use Rattle.record.specs.Layout.{octets-of};
+ghost use Rattle.record.specs.Octets.{number, spelled, placed, signed as Octets·signed, unsigned as Octets·unsigned};
+
+// The octet at a place.
+pub fn u8_at(s: &[u8], at: usize) -> u8
+    ensures { λ r. ⌜ r ≡ number 1 (drop at (now (s .entry))) ⌝ }
+{
+    if at < s.len() {
+        return s[at];
+    }
+    0
+}
+
+// The number of two octets from a place on.
+pub fn u16_at(s: &[u8], at: usize) -> u16
+    ensures { λ r. ⌜ r ≡ number 2 (drop at (now (s .entry))) ⌝ }
+{
+    if at < s.len() {
+        let low = u8_at(s, at);
+        let high = u8_at(s, at + 1);
+        return (low as u16) + 256 * (high as u16);
+    }
+    0
+}
+
+// The number of three octets, below 16,777,216.
+pub fn u24_at(s: &[u8], at: usize) -> u32
+    ensures { λ r. ⌜ r ≡ number 3 (drop at (now (s .entry))) ⌝ }
+{
+    if at < s.len() {
+        let low = u8_at(s, at);
+        let high = u16_at(s, at + 1);
+        return (low as u32) + 256 * (high as u32);
+    }
+    0
+}
+
+// The number of four octets.
+pub fn u32_at(s: &[u8], at: usize) -> u32
+    ensures { λ r. ⌜ r ≡ number 4 (drop at (now (s .entry))) ⌝ }
+{
+    if at < s.len() {
+        let low = u8_at(s, at);
+        let high = u24_at(s, at + 1);
+        return (low as u32) + 256 * high;
+    }
+    0
+}
+
+// The signed number of sixteen bits, in two's complement.
+pub fn signed(bits: u16) -> i16
+    ensures { λ r. ⌜ r ≡ Octets·signed bits ⌝ }
+{
+    if bits < 32768 {
+        return bits as i16;
+    }
+    let below = (65535 - bits) as i16;
+    -1 - below
+}
+
+// The sixteen bits of a signed number.
+pub fn unsigned(z: i16) -> u16
+    ensures { λ r. ⌜ r ≡ Octets·unsigned z ⌝ }
+{
+    if z < 0 {
+        let below = (-1 - z) as u16;
+        return 65535 - below;
+    }
+    z as u16
+}
+
+// The signed number of two octets.
+pub fn s16_at(s: &[u8], at: usize) -> i16
+    ensures { λ r. ⌜ r ≡ Octets·signed (number 2 (drop at (now (s .entry)))) ⌝ }
+{
+    let bits = u16_at(s, at);
+    signed(bits)
+}
+
+// The number that a field of a width has: an s16 as its sixteen bits.
+pub fn value_at(s: &[u8], at: usize, width: Width) -> u32
+    ensures { λ r. ⌜ r ≡ number (octets-of width) (drop at (now (s .entry))) ⌝ }
+{
+    match width {
+        Width::U8 => u8_at(s, at) as u32,
+        Width::U16 => u16_at(s, at) as u32,
+        Width::U24 => u24_at(s, at),
+        Width::S16 => u16_at(s, at) as u32,
+    }
+}
+
+// Writes one octet at a place.
+pub fn put_u8(out: &mut [u8], at: usize, x: u8)
+    ensures { λ r. ⌜ now (out .exit) ≡ placed (now (out .entry)) at (spelled 1 x) ⌝ }
+{
+    if out.len() <= at {
+        return;
+    }
+    out[at] = x;
+}
+
+// Writes two octets from a place on.
+pub fn put_u16(out: &mut [u8], at: usize, x: u16)
+    ensures { λ r. ⌜ now (out .exit) ≡ placed (now (out .entry)) at (spelled 2 x) ⌝ }
+{
+    if at < out.len() {
+        put_u8(out, at, (x % 256) as u8);
+        put_u8(out, at + 1, (x / 256) as u8);
+    }
+}
+
+// Writes the three low octets of a number.
+pub fn put_u24(out: &mut [u8], at: usize, x: u32)
+    ensures { λ r. ⌜ now (out .exit) ≡ placed (now (out .entry)) at (spelled 3 x) ⌝ }
+{
+    if at < out.len() {
+        put_u8(out, at, (x % 256) as u8);
+        put_u16(out, at + 1, (x / 256 % 65536) as u16);
+    }
+}
+
+// Writes four octets.
+pub fn put_u32(out: &mut [u8], at: usize, x: u32)
+    ensures { λ r. ⌜ now (out .exit) ≡ placed (now (out .entry)) at (spelled 4 x) ⌝ }
+{
+    if at < out.len() {
+        put_u8(out, at, (x % 256) as u8);
+        put_u24(out, at + 1, x / 256);
+    }
+}
+
+// Writes the two octets of a signed number.
+pub fn put_s16(out: &mut [u8], at: usize, z: i16)
+    ensures { λ r. ⌜ now (out .exit) ≡ placed (now (out .entry)) at (spelled 2 (Octets·unsigned z)) ⌝ }
+{
+    let bits = unsigned(z);
+    put_u16(out, at, bits);
+}
+
+// Writes a number in the octets of a width: an s16 is given as its sixteen bits.
+pub fn put_value(out: &mut [u8], at: usize, width: Width, x: u32)
+    ensures { λ r. ⌜ now (out .exit) ≡ placed (now (out .entry)) at (spelled (octets-of width) x) ⌝ }
+{
+    match width {
+        Width::U8 => put_u8(out, at, (x % 256) as u8),
+        Width::U16 => put_u16(out, at, (x % 65536) as u16),
+        Width::U24 => put_u24(out, at, x),
+        Width::S16 => put_u16(out, at, (x % 65536) as u16),
+    }
+}

@@ -1,4 +1,0 @@
-pub mod OctetLaws
-pub mod RefusalLaws
-pub mod FeatureLaws
-pub mod Once

@@ -1,4 +1,0 @@
-pub mod Octets
-pub mod Refusal
-pub mod Answer
-pub mod Feature
