@@ -75,7 +75,7 @@ pub fn open(feature: &[u8], ranges: Ranges) -> Opened
                     machine,
                 };
             }
-            unopened(Refusal::RangeReversed)
+            unopened(Refusal::UnusableSetup)
         }
     }
 }
@@ -100,7 +100,7 @@ pub fn connect(machine: Machine, client: u8) -> Moved
     let mut connected = machine.connected;
     let mut indicating = machine.indicating;
     if connected[c] {
-        return refused(machine, Refusal::NotConnected);
+        return refused(machine, Refusal::ConnectionMismatch);
     }
     connected[c] = true;
     indicating[c] = false;
@@ -124,7 +124,7 @@ pub fn disconnect(machine: Machine, client: u8) -> Moved
     let mut connected = machine.connected;
     let mut indicating = machine.indicating;
     if !connected[c] {
-        return refused(machine, Refusal::NotConnected);
+        return refused(machine, Refusal::ConnectionMismatch);
     }
     connected[c] = false;
     indicating[c] = false;
@@ -150,7 +150,7 @@ pub fn indicate(machine: Machine, client: u8, on: bool) -> Moved
     let connected = machine.connected;
     let mut indicating = machine.indicating;
     if !connected[c] {
-        return refused(machine, Refusal::NotConnected);
+        return refused(machine, Refusal::ConnectionMismatch);
     }
     indicating[c] = on;
     let due = machine.awaited;
@@ -173,7 +173,7 @@ pub fn confirm(machine: Machine, client: u8) -> Moved
     let connected = machine.connected;
     let awaited = machine.awaited;
     if !connected[c] {
-        return refused(machine, Refusal::NotConnected);
+        return refused(machine, Refusal::ConnectionMismatch);
     }
     if !is_client(awaited, client) {
         return refused(machine, Refusal::NothingDue);
@@ -208,7 +208,7 @@ pub fn write(machine: Machine, client: u8, octets: &[u8]) -> Written
     let indicating = machine.indicating;
     let awaited = machine.awaited;
     if !connected[c] {
-        return unwritten(machine, Refusal::NotConnected);
+        return unwritten(machine, Refusal::ConnectionMismatch);
     }
     if octets.len() == 0 {
         return unwritten(machine, Refusal::EmptyWrite);

@@ -12,7 +12,6 @@ use record::feature::FeatureAnswer;
 use record::layout::INDOOR_BIKE;
 use record::notification::PartAnswer;
 use record::notification::part_of;
-use record::octets::put_u16;
 use record::split::SplitAnswer;
 use record::split::split_numbers;
 use service::collector::Collected;
@@ -146,7 +145,8 @@ pub(crate) fn listed_line(step: u8) -> u8 {
     let length = length_at(step, 4);
     let mut capture = [0u8; CAPTURE];
     capture[0] = mended(step, 2, 0, INDOOR_BIKE);
-    put_u16(&mut capture, 1, length);
+    capture[1] = (length % 256) as u8;
+    capture[2] = (length / 256) as u8;
     capture[3] = CADENCE + BIT_0;
     let mut line = [b'0'; LINE];
     list(first(&capture, capture_length(step, length)), &mut line);

@@ -1,7 +1,5 @@
--- No second reply meets a contract: for each public function of the crate, over the contract itself; and for a function that is lent
--- something, no second content is left there.
+-- No second reply meets the contracts of numbers in octets, of the Feature value and of the refusal numbers.
 use mathlib.Core.Path.{_≡_, refl}
-use denote.Ref.{now}
 use Rattle.record.specs.declared.feature.FeatureAnswer.{FeatureAnswer}
 use Rattle.record.specs.declared.feature.FeatureAnswer.the-variants as feature-answers
 use Rattle.record.specs.Feature as Feature
@@ -14,19 +12,10 @@ use Rattle.record.proofs.feature.Feature.target_bits.Reads as feature-t
 use Rattle.record.proofs.octets.u8_at.Reads as octets-u8-at
 use Rattle.record.proofs.octets.u16_at.Reads as octets-u16-at
 use Rattle.record.proofs.octets.u24_at.Reads as octets-u24-at
-use Rattle.record.proofs.octets.u32_at.Reads as octets-u32-at
 use Rattle.record.proofs.octets.s16_at.Reads as octets-s16-at
-use Rattle.record.proofs.octets.value_at.Reads as octets-value-at
-use Rattle.record.proofs.octets.signed.Reads as octets-signed
 use Rattle.record.proofs.octets.unsigned.Reads as octets-unsigned
 use Rattle.record.proofs.refusal.Refusal.number.Reads as refusal-number
-use Rattle.record.proofs.octets.put_u8.Reads as octets-put-u8
-use Rattle.record.proofs.octets.put_u16.Reads as octets-put-u16
-use Rattle.record.proofs.octets.put_u24.Reads as octets-put-u24
-use Rattle.record.proofs.octets.put_u32.Reads as octets-put-u32
-use Rattle.record.proofs.octets.put_s16.Reads as octets-put-s16
-use Rattle.record.proofs.octets.put_value.Reads as octets-put-value
-use Rattle.record.proofs.Once.{Once, LeftOnce, same, Variant, with-value, with-refusal, by-meaning}
+use Rattle.record.proofs.Once.{Once, same, Variant, with-value, with-refusal, by-meaning}
 
 -- the meaning of an answer is the answer
 feature-variant : (x : FeatureAnswer) → Variant feature-answers.Feature feature-answers.Refused x
@@ -42,23 +31,10 @@ pub octets-once :
     Once octets-u8-at.Post ×
     Once octets-u16-at.Post ×
     Once octets-u24-at.Post ×
-    Once octets-u32-at.Post ×
     Once octets-s16-at.Post ×
-    Once octets-value-at.Post ×
-    Once octets-signed.Post ×
     Once octets-unsigned.Post
 octets-once =
-    (λ κs a x y s t. same, λ κs a x y s t. same, λ κs a x y s t. same, λ κs a x y s t. same, λ κs a x y s t. same, λ κs a x y s t. same, λ κs a x y s t. same, λ κs a x y s t. same)
-
-pub octets-left-once :
-    LeftOnce octets-put-u8.Post (λ κs s. now (s .0)) ×
-    LeftOnce octets-put-u16.Post (λ κs s. now (s .0)) ×
-    LeftOnce octets-put-u24.Post (λ κs s. now (s .0)) ×
-    LeftOnce octets-put-u32.Post (λ κs s. now (s .0)) ×
-    LeftOnce octets-put-s16.Post (λ κs s. now (s .0)) ×
-    LeftOnce octets-put-value.Post (λ κs s. now (s .0))
-octets-left-once =
-    (λ κs a x y s t. same, λ κs a x y s t. same, λ κs a x y s t. same, λ κs a x y s t. same, λ κs a x y s t. same, λ κs a x y s t. same)
+    (λ κs a x y s t. same, λ κs a x y s t. same, λ κs a x y s t. same, λ κs a x y s t. same, λ κs a x y s t. same)
 
 pub refusal-once : Once refusal-number.Post
 refusal-once κs a x y s t = same

@@ -6,14 +6,14 @@ use mathlib.Core.List.{List, [], _∷_}
 use lib.Dec.{ltb}
 use lib.ListN.{getD}
 use Rattle.record.specs.declared.refusal.Refusal.{Refusal}
-use Rattle.record.specs.declared.refusal.Refusal.the-variants.{ClientAboveThree, UnknownKind, PayloadOutOfRange, NotWellFormed, OutputTooShort, NoSuchPart, RangeReversed, NotConnected, EmptyWrite, IndicationsOff, ResponseAwaited, NothingDue, NotEightOctets, NotificationTooLong, ShorterThanFlags, ShorterThanGroups, OutsideToldSet, Incomplete, ToldSetUnlisted, CaptureTooLong, CaptureCutShort}
+use Rattle.record.specs.declared.refusal.Refusal.the-variants.{ClientAboveThree, UnknownKind, PayloadOutOfRange, NotWellFormed, OutputTooShort, NoSuchPart, UnusableSetup, ConnectionMismatch, EmptyWrite, IndicationsOff, ResponseAwaited, NothingDue, NotEightOctets, NotificationTooLong, ShorterThanFlags, ShorterThanGroups, OutsideToldSet, Incomplete, ToldSetUnlisted, CaptureTooLong, CaptureCutShort}
 use Rattle.record.specs.Refusal.{number-of}
 
 -- the refusals from 10 to 22
 tens : List Refusal
 tens =
-    ClientAboveThree ∷ UnknownKind ∷ PayloadOutOfRange ∷ NotWellFormed ∷ OutputTooShort ∷ NoSuchPart ∷ RangeReversed ∷
-    NotConnected ∷ EmptyWrite ∷ IndicationsOff ∷ ResponseAwaited ∷ NothingDue ∷ NotEightOctets ∷ []
+    ClientAboveThree ∷ UnknownKind ∷ PayloadOutOfRange ∷ NotWellFormed ∷ OutputTooShort ∷ NoSuchPart ∷ UnusableSetup ∷
+    ConnectionMismatch ∷ EmptyWrite ∷ IndicationsOff ∷ ResponseAwaited ∷ NothingDue ∷ NotEightOctets ∷ []
 
 -- the refusals from 30 to 37
 thirties : List Refusal
@@ -33,8 +33,8 @@ of-number-of PayloadOutOfRange = refl
 of-number-of NotWellFormed = refl
 of-number-of OutputTooShort = refl
 of-number-of NoSuchPart = refl
-of-number-of RangeReversed = refl
-of-number-of NotConnected = refl
+of-number-of UnusableSetup = refl
+of-number-of ConnectionMismatch = refl
 of-number-of EmptyWrite = refl
 of-number-of IndicationsOff = refl
 of-number-of ResponseAwaited = refl

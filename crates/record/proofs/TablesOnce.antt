@@ -5,7 +5,7 @@ use Rattle.record.proofs.groups.listed.Reads as groups-listed
 use Rattle.record.proofs.groups.flags_length.Reads as groups-flags-length
 use Rattle.record.proofs.groups.group_length.Reads as groups-group-length
 use Rattle.record.proofs.groups.groups_length.Reads as groups-groups-length
-use Rattle.record.proofs.layout.octets.Reads as layout-octets
+use Rattle.record.proofs.layout.width_length.Reads as layout-width-length
 use Rattle.record.proofs.layout.row_count.Reads as layout-row-count
 use Rattle.record.proofs.layout.row_of.Reads as layout-row-of
 use Rattle.record.proofs.Once.{Once, same}
@@ -21,7 +21,7 @@ groups-once =
     (λ κs a x y s t. same, λ κs a x y s t. same, λ κs a x y s t. same, λ κs a x y s t. same, λ κs a x y s t. same, λ κs a x y s t. same)
 
 pub layout-once :
-    Once layout-octets.Post ×
+    Once layout-width-length.Post ×
     Once layout-row-count.Post ×
     Once layout-row-of.Post
 layout-once =

@@ -1,7 +1,7 @@
 -- "Refusal numbers": what each refusal of the code is in document 01's table.
 use Prim.Native.Nat.{ℕ}
 use Rattle.record.specs.declared.refusal.Refusal.{Refusal}
-use Rattle.record.specs.declared.refusal.Refusal.the-variants.{ClientAboveThree, UnknownKind, PayloadOutOfRange, NotWellFormed, OutputTooShort, NoSuchPart, RangeReversed, NotConnected, EmptyWrite, IndicationsOff, ResponseAwaited, NothingDue, NotEightOctets, NotificationTooLong, ShorterThanFlags, ShorterThanGroups, OutsideToldSet, Incomplete, ToldSetUnlisted, CaptureTooLong, CaptureCutShort}
+use Rattle.record.specs.declared.refusal.Refusal.the-variants.{ClientAboveThree, UnknownKind, PayloadOutOfRange, NotWellFormed, OutputTooShort, NoSuchPart, UnusableSetup, ConnectionMismatch, EmptyWrite, IndicationsOff, ResponseAwaited, NothingDue, NotEightOctets, NotificationTooLong, ShorterThanFlags, ShorterThanGroups, OutsideToldSet, Incomplete, ToldSetUnlisted, CaptureTooLong, CaptureCutShort}
 
 -- the table's number: the code's enum has each number's words
 abbrev pub number-of : Refusal → ℕ
@@ -11,8 +11,8 @@ number-of PayloadOutOfRange = 12
 number-of NotWellFormed = 13
 number-of OutputTooShort = 14
 number-of NoSuchPart = 15
-number-of RangeReversed = 16
-number-of NotConnected = 17
+number-of UnusableSetup = 16
+number-of ConnectionMismatch = 17
 number-of EmptyWrite = 18
 number-of IndicationsOff = 19
 number-of ResponseAwaited = 20

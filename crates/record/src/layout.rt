@@ -244,7 +244,7 @@ fn indoor_bike_row(i: usize) -> Row
 }
 
 // The octets that a width takes.
-pub fn octets(width: Width) -> usize
+pub fn width_length(width: Width) -> usize
     ensures { λ r. ⌜ r ≡ octets-of width ⌝ }
 {
     match width {

@@ -6,9 +6,9 @@ use crate::groups::is_known;
 use crate::groups::listed;
 use crate::layout::CROSS_TRAINER;
 use crate::layout::Row;
-use crate::layout::octets;
 use crate::layout::row_count;
 use crate::layout::row_of;
+use crate::layout::width_length;
 use crate::octets::u16_at;
 use crate::octets::u24_at;
 use crate::octets::value_at;
@@ -105,7 +105,7 @@ fn read_row(row: Row, set: u32, notification: &[u8], at: usize, numbers: &mut [u
         let width = row.2;
         let field = row.1 as usize;
         numbers[field] = value_at(notification, at, width);
-        return at + octets(width);
+        return at + width_length(width);
     }
     at
 }

@@ -40,7 +40,7 @@ pub fn u24_at(s: &[u8], at: usize) -> u32
 }
 
 // The number of four octets.
-pub fn u32_at(s: &[u8], at: usize) -> u32
+pub(crate) fn u32_at(s: &[u8], at: usize) -> u32
     ensures { λ r. ⌜ r ≡ number 4 (drop at (now (s .entry))) ⌝ }
 {
     if at < s.len() {
@@ -52,7 +52,7 @@ pub fn u32_at(s: &[u8], at: usize) -> u32
 }
 
 // The signed number of sixteen bits, in two's complement.
-pub fn signed(bits: u16) -> i16
+pub(crate) fn signed(bits: u16) -> i16
     ensures { λ r. ⌜ r ≡ Octets·signed bits ⌝ }
 {
     if bits < 32768 {
@@ -82,7 +82,7 @@ pub fn s16_at(s: &[u8], at: usize) -> i16
 }
 
 // The number that a field of a width has: an s16 as its sixteen bits.
-pub fn value_at(s: &[u8], at: usize, width: Width) -> u32
+pub(crate) fn value_at(s: &[u8], at: usize, width: Width) -> u32
     ensures { λ r. ⌜ r ≡ number (octets-of width) (drop at (now (s .entry))) ⌝ }
 {
     match width {
@@ -94,7 +94,7 @@ pub fn value_at(s: &[u8], at: usize, width: Width) -> u32
 }
 
 // Writes one octet at a place.
-pub fn put_u8(out: &mut [u8], at: usize, x: u8)
+pub(crate) fn put_u8(out: &mut [u8], at: usize, x: u8)
     ensures { λ r. ⌜ now (out .exit) ≡ placed (now (out .entry)) at (spelled 1 x) ⌝ }
 {
     if out.len() <= at {
@@ -104,7 +104,7 @@ pub fn put_u8(out: &mut [u8], at: usize, x: u8)
 }
 
 // Writes two octets from a place on.
-pub fn put_u16(out: &mut [u8], at: usize, x: u16)
+pub(crate) fn put_u16(out: &mut [u8], at: usize, x: u16)
     ensures { λ r. ⌜ now (out .exit) ≡ placed (now (out .entry)) at (spelled 2 x) ⌝ }
 {
     if at < out.len() {
@@ -114,7 +114,7 @@ pub fn put_u16(out: &mut [u8], at: usize, x: u16)
 }
 
 // Writes the three low octets of a number.
-pub fn put_u24(out: &mut [u8], at: usize, x: u32)
+pub(crate) fn put_u24(out: &mut [u8], at: usize, x: u32)
     ensures { λ r. ⌜ now (out .exit) ≡ placed (now (out .entry)) at (spelled 3 x) ⌝ }
 {
     if at < out.len() {
@@ -124,7 +124,7 @@ pub fn put_u24(out: &mut [u8], at: usize, x: u32)
 }
 
 // Writes four octets.
-pub fn put_u32(out: &mut [u8], at: usize, x: u32)
+pub(crate) fn put_u32(out: &mut [u8], at: usize, x: u32)
     ensures { λ r. ⌜ now (out .exit) ≡ placed (now (out .entry)) at (spelled 4 x) ⌝ }
 {
     if at < out.len() {
@@ -134,7 +134,7 @@ pub fn put_u32(out: &mut [u8], at: usize, x: u32)
 }
 
 // Writes the two octets of a signed number.
-pub fn put_s16(out: &mut [u8], at: usize, z: i16)
+pub(crate) fn put_s16(out: &mut [u8], at: usize, z: i16)
     ensures { λ r. ⌜ now (out .exit) ≡ placed (now (out .entry)) at (spelled 2 (Octets·unsigned z)) ⌝ }
 {
     let bits = unsigned(z);
@@ -142,7 +142,7 @@ pub fn put_s16(out: &mut [u8], at: usize, z: i16)
 }
 
 // Writes a number in the octets of a width: an s16 is given as its sixteen bits.
-pub fn put_value(out: &mut [u8], at: usize, width: Width, x: u32)
+pub(crate) fn put_value(out: &mut [u8], at: usize, width: Width, x: u32)
     ensures { λ r. ⌜ now (out .exit) ≡ placed (now (out .entry)) at (spelled (octets-of width) x) ⌝ }
 {
     match width {

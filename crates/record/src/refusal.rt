@@ -16,9 +16,9 @@ pub enum Refusal {
     // 15: part number not below the number of parts
     NoSuchPart,
     // 16: some range has least above greatest
-    RangeReversed,
+    UnusableSetup,
     // 17: client not connected; for connect, already connected
-    NotConnected,
+    ConnectionMismatch,
     // 18: write of no octets
     EmptyWrite,
     // 19: indications off (ATT FD)
@@ -59,8 +59,8 @@ impl Refusal {
             Refusal::NotWellFormed => 13,
             Refusal::OutputTooShort => 14,
             Refusal::NoSuchPart => 15,
-            Refusal::RangeReversed => 16,
-            Refusal::NotConnected => 17,
+            Refusal::UnusableSetup => 16,
+            Refusal::ConnectionMismatch => 17,
             Refusal::EmptyWrite => 18,
             Refusal::IndicationsOff => 19,
             Refusal::ResponseAwaited => 20,

@@ -8,9 +8,9 @@ use crate::groups::has;
 use crate::groups::is_known;
 use crate::layout::CROSS_TRAINER;
 use crate::layout::Row;
-use crate::layout::octets;
 use crate::layout::row_count;
 use crate::layout::row_of;
+use crate::layout::width_length;
 use crate::numbers::numbers_of;
 use crate::octets::put_u16;
 use crate::octets::put_u24;
@@ -123,7 +123,7 @@ fn put_row(row: Row, set: u32, numbers: &[u32; 31], out: &mut [u8], at: usize) -
         let width = row.2;
         let field = row.1 as usize;
         put_value(out, at, width, numbers[field]);
-        return at + octets(width);
+        return at + width_length(width);
     }
     at
 }

@@ -12,9 +12,9 @@ use record::layout::Row;
 use record::layout::STAIR_CLIMBER;
 use record::layout::STEP_CLIMBER;
 use record::layout::TREADMILL;
-use record::layout::octets;
 use record::layout::row_count;
 use record::layout::row_of;
+use record::layout::width_length;
 use text::names::put_field;
 use text::text::put_bytes;
 use text::text::put_decimal;
@@ -73,7 +73,7 @@ pub fn put_table(out: &mut [u8], at: usize, kind: u8) -> usize
         let row = row_of(kind, i);
         let width = row.2;
         next = put_row(out, next, kind, offset, row);
-        offset += octets(width) as u32;
+        offset += width_length(width) as u32;
     }
     next
 }

@@ -7,7 +7,7 @@ use record::layout::POWER_OUTPUT;
 use record::layout::RAMP_ANGLE;
 use record::layout::Row;
 use record::layout::Width;
-use record::layout::octets;
+use record::layout::width_length;
 use text::names::put_field;
 use text::text::put_bytes;
 ghost use Rattle.text.specs.Text.{Wrote, ascii};
@@ -67,7 +67,7 @@ pub(crate) fn put_group(out: &mut [u8], at: usize, kind: u8, row: Row) -> usize
     if bit == 0 {
         return put_bytes(out, at, b"main");
     }
-    if group_length(kind, bit) == octets(width) {
+    if group_length(kind, bit) == width_length(width) {
         return put_field(out, at, field as usize);
     }
     put_shared(out, at, field)

@@ -1,5 +1,4 @@
 // Numbers and the Feature value from octets and back.
-use crate::printing::UNTOUCHED;
 use crate::printing::print_refusal;
 use crate::printing::print_signed;
 use output::print;
@@ -7,15 +6,14 @@ use output::print_number;
 use output::print_octets;
 use record::feature::Feature;
 use record::feature::FeatureAnswer;
-use record::octets::put_s16;
-use record::octets::put_u24;
 use record::octets::s16_at;
 use record::octets::u24_at;
+use record::octets::unsigned;
 
 fn run_s16(octets: [u8; 2]) {
     let z = s16_at(&octets, 0);
-    let mut back = [UNTOUCHED; 2];
-    put_s16(&mut back, 0, z);
+    let bits = unsigned(z);
+    let back = [(bits % 256) as u8, (bits / 256) as u8];
     print(b"s16");
     print_octets(&octets);
     print_signed(b" is ", z);
@@ -26,8 +24,11 @@ fn run_s16(octets: [u8; 2]) {
 
 fn run_u24(octets: [u8; 3]) {
     let x = u24_at(&octets, 0);
-    let mut back = [UNTOUCHED; 3];
-    put_u24(&mut back, 0, x);
+    let back = [
+        (x % 256) as u8,
+        (x / 256 % 256) as u8,
+        (x / 65536 % 256) as u8,
+    ];
     print(b"u24");
     print_octets(&octets);
     print_number(b" is ", x as u64);

@@ -9,7 +9,7 @@ use denote.Ref.{RefT}
 use lib.ListN.{length, getD, List·getD-map}
 use Rattle.record.specs.Answer.{Answer, refused}
 use Rattle.record.specs.declared.refusal.Refusal.{Refusal}
-use Rattle.record.specs.declared.refusal.Refusal.the-variants.{ClientAboveThree, UnknownKind, PayloadOutOfRange, NotWellFormed, OutputTooShort, NoSuchPart, RangeReversed, NotConnected, EmptyWrite, IndicationsOff, ResponseAwaited, NothingDue, NotEightOctets}
+use Rattle.record.specs.declared.refusal.Refusal.the-variants.{ClientAboveThree, UnknownKind, PayloadOutOfRange, NotWellFormed, OutputTooShort, NoSuchPart, UnusableSetup, ConnectionMismatch, EmptyWrite, IndicationsOff, ResponseAwaited, NothingDue, NotEightOctets}
 use Rattle.record.specs.Refusal.{number-of}
 use Rattle.record.specs.Feature.{named, words}
 use Rattle.codes.specs.declared.ranges.Ranges.{Ranges}
@@ -34,7 +34,7 @@ use Rattle.console.proofs.ControlLaws.Ours.{DidOpen, did-open, Did, did
 
 abbrev refusals : List Refusal
 refusals =
-    ClientAboveThree ∷ UnknownKind ∷ PayloadOutOfRange ∷ NotWellFormed ∷ OutputTooShort ∷ NoSuchPart ∷ RangeReversed ∷ NotConnected ∷ EmptyWrite ∷
+    ClientAboveThree ∷ UnknownKind ∷ PayloadOutOfRange ∷ NotWellFormed ∷ OutputTooShort ∷ NoSuchPart ∷ UnusableSetup ∷ ConnectionMismatch ∷ EmptyWrite ∷
     IndicationsOff ∷ ResponseAwaited ∷ NothingDue ∷ NotEightOctets ∷ []
 
 abbrev from-on : ℕ → ℕ → List ℕ

@@ -33,8 +33,8 @@ rows-few c =
     let k = l .before .before .before .before .args .kind in
     let m : length (layout k) ≤ 20 = rows-most k in omega (arith, l .loop .inv)
 
-octets-few : (c : tie.After-octets Inv-loop μ-loop) → c .octets .result ≤ 3
-octets-few c = rw (c .octets .ensures) (width-most (c .before .before .before .before .before .row-of .result .2))
+octets-few : (c : tie.After-width-length Inv-loop μ-loop) → c .width-length .result ≤ 3
+octets-few c = rw (c .width-length .ensures) (width-most (c .before .before .before .before .before .row-of .result .2))
 
 loop-holds : tie.Need-loop-holds Inv-loop μ-loop
 unfolding size
@@ -54,7 +54,7 @@ loop-again c =
       l .loop .inv .0,
       omega arith,
       omega (arith, r .put-row .kept .0),
-      omega (arith, n, c .octets .ensures, l .loop .inv .3),
+      omega (arith, n, c .width-length .ensures, l .loop .inv .3),
       omega (arith, w, l .loop .inv .4),
       next-line (s .kind) (flags-octets (s .kind)) (layout (s .kind)) (l .loop .i) (l .loop .offset) no-row (g .row-of .result) (g .row-of .ensures) (omega arith)
           (l .loop .inv .3) (l .loop .inv .5) (r .put-row .ensures),

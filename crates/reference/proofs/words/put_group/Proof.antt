@@ -19,7 +19,7 @@ returns-2 c =
     let t = d .before .before in
     let o = t .before in
     let g = o .before in
-    rw (ne-eqb _ 0 (g .before .if1 .left), eq-eqb _ _ (sym (g .group-length .ensures) ∙ t .if2 .taken ∙ o .octets .ensures)) (d .put-field .ensures)
+    rw (ne-eqb _ 0 (g .before .if1 .left), eq-eqb _ _ (sym (g .group-length .ensures) ∙ t .if2 .taken ∙ o .width-length .ensures)) (d .put-field .ensures)
 
 returns-3 : tie.Need-returns-3
 unfolding group-word
@@ -28,7 +28,7 @@ returns-3 c =
     let t = d .before .before in
     let o = t .before in
     let g = o .before in
-    rw (ne-eqb _ 0 (g .before .if1 .left), ne-eqb _ _ (λ e. t .if2 .left (g .group-length .ensures ∙ e ∙ sym (o .octets .ensures)))) (d .put-shared .ensures)
+    rw (ne-eqb _ 0 (g .before .if1 .left), ne-eqb _ _ (λ e. t .if2 .left (g .group-length .ensures ∙ e ∙ sym (o .width-length .ensures)))) (d .put-shared .ensures)
 
 pub put-group-spec : {M : Type 1} → statement M
 put-group-spec =
