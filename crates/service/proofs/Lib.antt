@@ -1,3 +1,4 @@
 pub mod Lowest
 pub mod Joining
 pub mod CollectorOnce
+pub mod ControlLaws

@@ -1,2 +1,3 @@
-// The collector, above the record layer and on its promise alone.
+// The collector and the control point, above the record layer and on its promise alone.
 pub mod collector;
+pub mod control;

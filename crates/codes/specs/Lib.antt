@@ -1,4 +1,0 @@
-pub mod Parameters
-pub mod OpCodes
-pub mod Ranges
-pub mod Samples

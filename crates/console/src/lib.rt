@@ -1,2 +1,0 @@
-// The console: the control point, for up to four clients.
-pub mod control;

@@ -1,4 +1,0 @@
-pub mod Fits
-pub mod Boxes
-pub mod Results
-pub mod Once

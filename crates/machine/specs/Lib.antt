@@ -1,4 +1,0 @@
-pub mod Octets
-pub mod Machine
-pub mod Judging
-pub mod Effects

@@ -1,0 +1,6 @@
+-- What the proofs of the control point share.
+pub mod Rule
+pub mod Fits
+pub mod Boxes
+pub mod Widths
+pub mod Answers

@@ -1,0 +1,69 @@
+-- A rule of the op codes is a test that computes over the table: it holds of whatever the table says of an op code.
+use Prim.Native.Nat.{ℕ, _+_, _≤_}
+use mathlib.Core.Path.{_≡_, refl, sym}
+use mathlib.Core.Bool.{Bool, true, _&&_}
+use mathlib.Core.List.{List, [], _∷_}
+use native.Mathlib.Omega.{arith}
+use lib.Dec.{eqb, leb}
+use Rattle.record.proofs.Tests.{passed, failed, tested, leb-le, eqb-eq, and-l, and-r, all}
+use Rattle.service.specs.declared.control.op_codes.OpCode.{OpCode}
+use Rattle.service.specs.declared.control.op_codes.Act.{Act}
+use Rattle.service.specs.declared.control.op_codes.Act.the-variants.{TakesControl, Resets, Starts, Halts, Stores}
+use Rattle.service.specs.declared.control.op_codes.Lookup.{Lookup}
+use Rattle.service.specs.declared.control.op_codes.Lookup.the-variants.{Known, Unknown}
+use Rattle.service.specs.Control.OpCodes.{Line, table, look-up, op-code}
+use Rattle.service.specs.Control.Parameters.{size}
+use Rattle.service.specs.Control.Effects.{Room}
+
+-- an op code that is known is no unknown one
+pub not-unknown : {A : Type 0} {x : OpCode} → Unknown ≡ Known x → A
+not-unknown e = absurd (let z : _≡_ {A = ℕ} 0 1 = cc in omega arith)
+
+same-code : (x y : OpCode) → Known x ≡ Known y → x ≡ y
+same-code x y e = cc
+
+-- a rule that holds of every line
+module _ (f : ℕ → OpCode → Bool) where
+  abbrev pub on-line : Line → Bool
+  on-line l = f (l .op) (l .code)
+
+  rule-in : (ls : List Line) → all on-line ls ≡ true → (o : ℕ) (x : OpCode) → look-up o ls ≡ Known x → f o x ≡ true
+  rule-in [] h o x e = not-unknown e
+  rule-in (l ∷ ls) h o x e = elim (tested (eqb o (l .op))) [
+    | passed t ↦
+        let k : Known (l .code) ≡ Known x = rw t at e in
+        rw (eqb-eq o (l .op) t, sym (same-code (l .code) x k)) (and-l (on-line l) (all on-line ls) h)
+    | failed t ↦ rule-in ls (and-r (on-line l) (all on-line ls) h) o x (rw t at e)
+  ]
+
+  pub table-rule : all on-line table ≡ true → (o : ℕ) (x : OpCode) → op-code o ≡ Known x → f o x ≡ true
+  unfolding op-code
+  table-rule h o x e = rule-in table h o x e
+
+-- ---- a parameter has ten octets at most, and a setting lies among the 49
+
+abbrev ten : ℕ → OpCode → Bool
+ten o x = leb (size (x .parameter)) 10
+
+pub size-most : (o : ℕ) (x : OpCode) → op-code o ≡ Known x → size (x .parameter) ≤ 10
+size-most o x e = leb-le (size (x .parameter)) 10 (table-rule ten refl o x e)
+
+abbrev end : ℕ → Act → ℕ
+end n TakesControl = 0
+end n Resets = 0
+end n Starts = 0
+end n Halts = 0
+end n (Stores at) = at + n
+
+abbrev inside : ℕ → OpCode → Bool
+inside o x = leb (end (size (x .parameter)) (x .act)) 49
+
+pub room-for : (o : ℕ) (x : OpCode) → op-code o ≡ Known x → Room (x .act) (size (x .parameter))
+room-for o x e = from (x .act) (leb-le (end (size (x .parameter)) (x .act)) 49 (table-rule inside refl o x e))
+  where
+    from : (a : Act) → end (size (x .parameter)) a ≤ 49 → Room a (size (x .parameter))
+    from TakesControl h = tt
+    from Resets h = tt
+    from Starts h = tt
+    from Halts h = tt
+    from (Stores at) h = h

@@ -1,0 +1,50 @@
+-- The machine that op codes act on, and the ways in which they change it.
+use Prim.Native.Nat.{ℕ}
+use mathlib.Core.Bool.{Bool, true, false, cond}
+use mathlib.Core.List.{List}
+use lib.Dec.{eqb}
+use lib.ListN.{replicate}
+use Rattle.service.specs.declared.control.machine.Setup.{Setup}
+use Rattle.service.specs.declared.control.machine.Machine.{Machine}
+use Rattle.service.specs.declared.control.machine.Mode.{Mode}
+use Rattle.service.specs.declared.control.machine.Mode.the-variants.{Stopped}
+use Rattle.service.specs.declared.control.machine.Who.{Who}
+use Rattle.service.specs.declared.control.machine.Who.the-variants.{Nobody, Client}
+use Rattle.service.specs.Control.Ranges.{are-ranges}
+
+-- "16: some range has least above greatest", turned over
+abbrev pub usable : Setup → Bool
+usable s = are-ranges (s .ranges)
+
+abbrev pub someone : Who → Bool
+someone Nobody = false
+someone (Client c) = true
+
+abbrev pub is : Who → ℕ → Bool
+is Nobody c = false
+is (Client d) c = eqb d c
+
+-- who is left when a client goes
+abbrev pub without : Who → ℕ → Who
+without w c = cond (is w c) Nobody w
+
+-- "At first it is stopped, .., nobody holds control, and every setting is zero."
+abbrev pub fresh : Setup → Machine
+fresh s = record { setup = s; holder = Nobody; mode = Stopped; settings = replicate 49 0 }
+
+abbrev pub held-by : Machine → Who → Machine
+held-by m w = record { setup = m .setup; holder = w; mode = m .mode; settings = m .settings }
+
+-- "Disconnect frees control held by that client"
+abbrev pub freed : Machine → ℕ → Machine
+freed m c = held-by m (without (m .holder) c)
+
+abbrev pub going : Machine → Mode → Machine
+going m x = record { setup = m .setup; holder = m .holder; mode = x; settings = m .settings }
+
+abbrev pub storing : Machine → List ℕ → Machine
+storing m s = record { setup = m .setup; holder = m .holder; mode = m .mode; settings = s }
+
+-- "01 zeroes every setting, stops and frees control"
+abbrev pub cleared : Machine → Machine
+cleared m = going (storing (held-by m Nobody) (replicate 49 0)) Stopped

@@ -1,0 +1,319 @@
+// The control point: a console is opened, clients connect, write op codes and confirm responses. A console goes in and comes back by value.
+pub mod counted;
+mod effects;
+pub mod judging;
+pub mod machine;
+pub mod op_codes;
+pub mod parameters;
+pub mod ranges;
+
+use crate::control::counted::Counted;
+use crate::control::counted::none;
+use crate::control::counted::three;
+use crate::control::effects::perform;
+use crate::control::effects::setting;
+use crate::control::judging::WriteResult;
+use crate::control::machine::Machine;
+use crate::control::machine::Setup;
+use crate::control::machine::Who;
+use crate::control::ranges::HeartRateRange;
+use crate::control::ranges::Ranges;
+use crate::control::ranges::SignedRange;
+use crate::control::ranges::SpeedRange;
+use record::feature::Feature;
+use record::feature::FeatureAnswer;
+use record::refusal::Refusal;
+ghost use mathlib.Core.Path.{_≡_};
+ghost use mathlib.Core.List.{[]};
+ghost use Rattle.record.specs.Refusal.{number-of};
+ghost use Rattle.service.specs.Control.Counted.{boxed};
+ghost use Rattle.service.specs.Control.Effects.{response-octets, setting as Effects·setting};
+ghost use Rattle.service.specs.Control.Console.{first, closed as Console·closed, with-client};
+ghost use Rattle.service.specs.Control.Replies.{Says, refuses, accepts};
+ghost use Rattle.service.specs.Control.Calls.{opening, opens, connects, disconnects, indicates, confirms, answers, writes};
+
+// Whether a client is connected, and whether its indications are on.
+pub struct Client {
+    pub connected: bool,
+    pub indicating: bool,
+}
+
+// What the calls act on: the machine, the four clients, and whose response awaits confirmation.
+pub struct Console {
+    pub machine: Machine,
+    pub clients: [Client; 4],
+    pub awaited: Who,
+}
+
+// What became of a call.
+pub enum Outcome {
+    Done,
+    Refused(Refusal),
+}
+
+// What a call gives: the outcome, the response octets, the status octets, and the console after it. What a call does not give is empty.
+pub struct Reply {
+    pub outcome: Outcome,
+    pub response: Counted,
+    pub status: Counted,
+    pub console: Console,
+}
+
+const ABSENT: Client = Client {
+    connected: false,
+    indicating: false,
+};
+
+fn refused(console: Console, why: Refusal) -> Reply
+    ensures { λ r. ⌜ Says r (refuses console (number-of why)) ⌝ }
+{
+    Reply {
+        outcome: Outcome::Refused(why),
+        response: none(),
+        status: none(),
+        console,
+    }
+}
+
+fn accepted(console: Console) -> Reply
+    ensures { λ r. ⌜ Says r (accepts console) ⌝ }
+{
+    Reply {
+        outcome: Outcome::Done,
+        response: none(),
+        status: none(),
+        console,
+    }
+}
+
+// "At first it is stopped, no client is connected, nobody holds control, and every setting is zero."
+fn opened(setup: Setup) -> Console
+    ensures { λ r. ⌜ r ≡ first setup ⌝ }
+{
+    Console {
+        machine: Machine::fresh(setup),
+        clients: [ABSENT; 4],
+        awaited: Who::Nobody,
+    }
+}
+
+// What stands where opening is refused: a console that supports no target setting and has every range at 0.
+fn closed() -> Console
+    ensures { λ r. ⌜ r ≡ Console·closed ⌝ }
+{
+    let signed = SignedRange {
+        least: 0,
+        greatest: 0,
+    };
+    let ranges = Ranges {
+        speed: SpeedRange {
+            least: 0,
+            greatest: 0,
+        },
+        inclination: signed,
+        resistance: signed,
+        power: signed,
+        heart_rate: HeartRateRange {
+            least: 0,
+            greatest: 0,
+        },
+    };
+    let feature = Feature {
+        features: 0,
+        targets: 0,
+    };
+    opened(Setup { feature, ranges })
+}
+
+// "Response: 80, op code, result."
+fn response(op: u8, result: WriteResult) -> Counted
+    ensures { λ r. ⌜ r ≡ boxed (response-octets op result) ⌝ }
+{
+    three(0x80, op, result.number())
+}
+
+impl Console {
+    // Opens a console with the octets of a Feature value and the machine's ranges: 22, then 16.
+    pub fn open(feature: &[u8], ranges: Ranges) -> Reply
+        ensures { λ r. ⌜ Says r (opens (opening (now (feature .entry)) ranges)) ⌝ }
+    {
+        match Feature::from_octets(feature) {
+            FeatureAnswer::Refused(why) => refused(closed(), why),
+            FeatureAnswer::Feature(value) => {
+                let setup = Setup {
+                    feature: value,
+                    ranges,
+                };
+                if setup.is_usable() {
+                    return accepted(opened(setup));
+                }
+                refused(closed(), Refusal::UnusableSetup)
+            }
+        }
+    }
+
+    // The console with another client in a client's place.
+    fn with(self, client: u8, state: Client) -> Console
+        ensures { λ r. ⌜ r ≡ with-client self client state ⌝ }
+    {
+        let machine = self.machine;
+        let awaited = self.awaited;
+        let mut clients = self.clients;
+        let c = client as usize;
+        if c < 4 {
+            clients[c] = state;
+        }
+        Console {
+            machine,
+            clients,
+            awaited,
+        }
+    }
+
+    // A client connects, with indications off: 10, 17.
+    pub fn connect(self, client: u8) -> Reply
+        ensures { λ r. ⌜ Says r (connects self client) ⌝ }
+    {
+        if 3 < client {
+            return refused(self, Refusal::ClientAboveThree);
+        }
+        let c = client as usize;
+        let clients = self.clients;
+        let was = clients[c];
+        if was.connected {
+            return refused(self, Refusal::ConnectionMismatch);
+        }
+        let joined = Client {
+            connected: true,
+            indicating: false,
+        };
+        accepted(self.with(client, joined))
+    }
+
+    // A client disconnects, which frees control that it holds, its indications and its awaited response: 10, 17.
+    pub fn disconnect(self, client: u8) -> Reply
+        ensures { λ r. ⌜ Says r (disconnects self client) ⌝ }
+    {
+        if 3 < client {
+            return refused(self, Refusal::ClientAboveThree);
+        }
+        let c = client as usize;
+        let clients = self.clients;
+        let was = clients[c];
+        if !was.connected {
+            return refused(self, Refusal::ConnectionMismatch);
+        }
+        let mut left = clients;
+        left[c] = ABSENT;
+        let before = self.machine;
+        let machine = before.freed(client);
+        let due = self.awaited;
+        let awaited = due.without(client);
+        accepted(Console {
+            machine,
+            clients: left,
+            awaited,
+        })
+    }
+
+    // A client's indications go on or off, which leaves an awaited response due: 10, 17.
+    pub fn indicate(self, client: u8, on: bool) -> Reply
+        ensures { λ r. ⌜ Says r (indicates self client on) ⌝ }
+    {
+        if 3 < client {
+            return refused(self, Refusal::ClientAboveThree);
+        }
+        let c = client as usize;
+        let clients = self.clients;
+        let was = clients[c];
+        if !was.connected {
+            return refused(self, Refusal::ConnectionMismatch);
+        }
+        let turned = Client {
+            connected: true,
+            indicating: on,
+        };
+        accepted(self.with(client, turned))
+    }
+
+    // A client confirms the response that is due to it: 10, 17, 21.
+    pub fn confirm(self, client: u8) -> Reply
+        ensures { λ r. ⌜ Says r (confirms self client) ⌝ }
+    {
+        if 3 < client {
+            return refused(self, Refusal::ClientAboveThree);
+        }
+        let c = client as usize;
+        let clients = self.clients;
+        let was = clients[c];
+        if !was.connected {
+            return refused(self, Refusal::ConnectionMismatch);
+        }
+        let due = self.awaited;
+        if !due.is(client) {
+            return refused(self, Refusal::NothingDue);
+        }
+        let machine = self.machine;
+        accepted(Console {
+            machine,
+            clients,
+            awaited: Who::Nobody,
+        })
+    }
+
+    // A client writes an op code and its parameter: 10, 17, 18, 19, 20, or a response that awaits confirmation, and status octets where it succeeds.
+    pub fn write(self, client: u8, octets: &[u8]) -> Reply
+        ensures { λ r. ⌜ Says r (writes self client (now (octets .entry))) ⌝ }
+    {
+        if 3 < client {
+            return refused(self, Refusal::ClientAboveThree);
+        }
+        let c = client as usize;
+        let clients = self.clients;
+        let was = clients[c];
+        if !was.connected {
+            return refused(self, Refusal::ConnectionMismatch);
+        }
+        if octets.len() == 0 {
+            return refused(self, Refusal::EmptyWrite);
+        }
+        if !was.indicating {
+            return refused(self, Refusal::IndicationsOff);
+        }
+        let due = self.awaited;
+        if due.is_someone() {
+            return refused(self, Refusal::ResponseAwaited);
+        }
+        self.answer(client, octets[0], &octets[1..])
+    }
+
+    // The response to a write that is not refused.
+    fn answer(self, client: u8, op: u8, p: &[u8]) -> Reply
+        ensures { λ r. ⌜ Says r (answers self client op (now (p .entry))) ⌝ }
+    {
+        let before = self.machine;
+        let clients = self.clients;
+        let performed = perform(before, client, op, p);
+        let response = response(op, performed.result);
+        let status = performed.status;
+        let machine = performed.machine;
+        Reply {
+            outcome: Outcome::Done,
+            response,
+            status,
+            console: Console {
+                machine,
+                clients,
+                awaited: Who::Client(client),
+            },
+        }
+    }
+
+    // The setting that an op code stores, 0 at first; no octets for an op code that stores none.
+    pub fn setting(self, op: u8) -> Counted
+        ensures { λ r. ⌜ r ≡ boxed (Effects·setting (self .machine) op) ⌝ }
+    {
+        let machine = self.machine;
+        setting(machine, op)
+    }
+}

@@ -1,0 +1,92 @@
+// Octets beside their count, as a reply hands them out.
+ghost use mathlib.Core.Path.{_≡_};
+ghost use mathlib.Core.List.{[], _∷_};
+ghost use Prim.Native.Nat.{_+_, _≤_};
+ghost use lib.ListN.{length, take, drop};
+ghost use Rattle.record.specs.Octets.{placed};
+ghost use Rattle.service.specs.Control.Counted.{boxed};
+
+// As many octets as the count says; those past the count are 0.
+pub struct Counted {
+    pub count: u8,
+    pub octets: [u8; 11],
+}
+
+// Writes octets over others, from a place on.
+fn put(out: &mut [u8], at: usize, octets: &[u8])
+    requires { ⌜ at + length (now octets) ≤ length (now out) ⌝ }
+    ensures { λ r. ⌜ now (out .exit) ≡ placed (now (out .entry)) at (now (octets .entry)) ⌝ }
+{
+    let mut i = 0;
+    while i < octets.len() {
+        out[at + i] = octets[i];
+        i = i + 1;
+    }
+}
+
+// The settings with some octets written at a place.
+pub(crate) fn stored(settings: [u8; 49], place: u8, octets: &[u8]) -> [u8; 49]
+    requires { ⌜ place + length (now octets) ≤ 49 ⌝ }
+    ensures { λ r. ⌜ r ≡ placed settings place (now (octets .entry)) ⌝ }
+{
+    let mut out = settings;
+    put(&mut out, place as usize, octets);
+    out
+}
+
+// The octets of a setting that starts at a place.
+pub(crate) fn kept(settings: [u8; 49], place: u8, count: u8) -> Counted
+    requires { ⌜ (place + count ≤ 49) × (count ≤ 11) ⌝ }
+    ensures { λ r. ⌜ r ≡ boxed (take count (drop place settings)) ⌝ }
+{
+    let start = place as usize;
+    let end = start + count as usize;
+    let mut octets = [0u8; 11];
+    put(&mut octets, 0, &settings[start..end]);
+    Counted { count, octets }
+}
+
+// No octets.
+pub(crate) fn none() -> Counted
+    ensures { λ r. ⌜ r ≡ boxed [] ⌝ }
+{
+    Counted {
+        count: 0,
+        octets: [0u8; 11],
+    }
+}
+
+// One octet.
+pub(crate) fn one(x: u8) -> Counted
+    ensures { λ r. ⌜ r ≡ boxed (x ∷ []) ⌝ }
+{
+    Counted {
+        count: 1,
+        octets: [x, 0, 0, 0, 0, 0, 0, 0, 0, 0, 0],
+    }
+}
+
+// Three octets.
+pub(crate) fn three(x: u8, y: u8, z: u8) -> Counted
+    ensures { λ r. ⌜ r ≡ boxed (x ∷ y ∷ z ∷ []) ⌝ }
+{
+    Counted {
+        count: 3,
+        octets: [x, y, z, 0, 0, 0, 0, 0, 0, 0, 0],
+    }
+}
+
+// An octet and a parameter.
+pub(crate) fn before(first: u8, p: &[u8]) -> Counted
+    requires { ⌜ length (now p) ≤ 10 ⌝ }
+    ensures { λ r. ⌜ r ≡ boxed (first ∷ now (p .entry)) ⌝ }
+{
+    let mut octets = [0u8; 11];
+    octets[0] = first;
+    put(&mut octets, 1, p);
+    let n = p.len() as u8;
+    Counted {
+        count: 1 + n,
+        octets,
+    }
+}

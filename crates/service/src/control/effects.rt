@@ -1,0 +1,153 @@
+// What a write of an op code and its parameter does to the machine, and says.
+use crate::control::counted::Counted;
+use crate::control::counted::before;
+use crate::control::counted::kept;
+use crate::control::counted::none;
+use crate::control::counted::one;
+use crate::control::counted::stored;
+use crate::control::judging::WriteResult;
+use crate::control::judging::judged;
+use crate::control::machine::Machine;
+use crate::control::machine::Mode;
+use crate::control::machine::Who;
+use crate::control::op_codes::Act;
+use crate::control::op_codes::Lookup;
+use crate::control::op_codes::OpCode;
+use crate::control::op_codes::Status;
+use crate::control::op_codes::op_code;
+use record::octets::u8_at;
+ghost use mathlib.Core.Path.{_≡_};
+ghost use mathlib.Core.List.{[]};
+ghost use Prim.Native.Nat.{_+_, _≤_};
+ghost use lib.ListN.{length};
+ghost use Rattle.record.specs.Octets.{placed};
+ghost use Rattle.service.specs.Control.Machine.{storing as Machine·storing};
+ghost use Rattle.service.specs.Control.Counted.{boxed};
+ghost use Rattle.service.specs.Control.Effects.{Room, halted-to, done as Effects·done, part as Effects·part, status-octets, performs, setting as Effects·setting};
+
+// The result, the status octets, and the machine after it.
+pub(crate) struct Performed {
+    pub result: WriteResult,
+    pub status: Counted,
+    pub machine: Machine,
+}
+
+// "08 stopped (1) or paused (2)"
+fn halted(x: u8) -> Mode
+    ensures { λ r. ⌜ r ≡ halted-to x ⌝ }
+{
+    if x == 1 {
+        return Mode::Stopped;
+    }
+    Mode::Paused
+}
+
+// A setting is stored.
+fn keeping(machine: Machine, place: u8, p: &[u8]) -> Machine
+    requires { ⌜ place + length (now p) ≤ 49 ⌝ }
+    ensures { λ r. ⌜ r ≡ Machine·storing machine (placed (machine .settings) place (now (p .entry))) ⌝ }
+{
+    let old = machine.settings;
+    let settings = stored(old, place, p);
+    machine.storing(settings)
+}
+
+// What the success of an op code with its parameter makes of a machine.
+fn done(machine: Machine, client: u8, act: Act, p: &[u8]) -> Machine
+    requires { ⌜ Room act (length (now p)) ⌝ }
+    ensures { λ r. ⌜ r ≡ Effects·done machine client act (now (p .entry)) ⌝ }
+{
+    let x = u8_at(p, 0);
+    let mode = halted(x);
+    match act {
+        Act::TakesControl => machine.held(Who::Client(client)),
+        Act::Resets => machine.reset(),
+        Act::Starts => machine.going(Mode::Running),
+        Act::Halts => machine.going(mode),
+        Act::Stores(place) => keeping(machine, place, p),
+    }
+}
+
+// What the success of an op code with its parameter says.
+fn says(status: Status, p: &[u8]) -> Counted
+    requires { ⌜ length (now p) ≤ 10 ⌝ }
+    ensures { λ r. ⌜ r ≡ boxed (status-octets status (now (p .entry))) ⌝ }
+{
+    match status {
+        Status::Silent => none(),
+        Status::Octet(x) => one(x),
+        Status::Echo(x) => before(x, p),
+    }
+}
+
+// A write that does nothing but have a result.
+fn failed(machine: Machine, result: WriteResult) -> Performed
+    ensures { λ r. ⌜ r ≡ record { result = result; status = boxed []; machine = machine } ⌝ }
+{
+    Performed {
+        result,
+        status: none(),
+        machine,
+    }
+}
+
+// A write that succeeds.
+fn granted(machine: Machine, client: u8, code: OpCode, p: &[u8]) -> Performed
+    requires { ⌜ (length (now p) ≤ 10) × Room (code .act) (length (now p)) ⌝ }
+    ensures { λ r. ⌜ r ≡ record { result = WriteResult.Success; status = boxed (status-octets (code .status) (now (p .entry))); machine = Effects·done machine client (code .act) (now (p .entry)) } ⌝ }
+{
+    let status = code.status;
+    let act = code.act;
+    let said = says(status, p);
+    let after = done(machine, client, act, p);
+    Performed {
+        result: WriteResult::Success,
+        status: said,
+        machine: after,
+    }
+}
+
+// What a client's write of an op code and its parameter gives: "02 to 05 change nothing else".
+pub(crate) fn perform(machine: Machine, client: u8, op: u8, p: &[u8]) -> Performed
+    ensures { λ r. ⌜ r ≡ performs machine client op (now (p .entry)) ⌝ }
+{
+    match op_code(op) {
+        Lookup::Known(code) => {
+            let result = judged(machine, client, code, p);
+            if result.is_success() {
+                return granted(machine, client, code, p);
+            }
+            failed(machine, result)
+        }
+        Lookup::Unknown => failed(machine, WriteResult::NotSupported),
+    }
+}
+
+// The octets of a setting, from the place where an act stores it.
+fn part(settings: [u8; 49], count: u8, act: Act) -> Counted
+    requires { ⌜ (count ≤ 10) × Room act count ⌝ }
+    ensures { λ r. ⌜ r ≡ boxed (Effects·part settings count act) ⌝ }
+{
+    match act {
+        Act::TakesControl => none(),
+        Act::Resets => none(),
+        Act::Starts => none(),
+        Act::Halts => none(),
+        Act::Stores(place) => kept(settings, place, count),
+    }
+}
+
+// The setting that an op code stores, 0 at first; no octets for an op code that stores none.
+pub(crate) fn setting(machine: Machine, op: u8) -> Counted
+    ensures { λ r. ⌜ r ≡ boxed (Effects·setting machine op) ⌝ }
+{
+    let settings = machine.settings;
+    match op_code(op) {
+        Lookup::Known(code) => {
+            let parameter = code.parameter;
+            let act = code.act;
+            part(settings, parameter.length(), act)
+        }
+        Lookup::Unknown => none(),
+    }
+}

@@ -1,0 +1,148 @@
+// The machine that op codes act on: what it was opened with, who holds control, what it does, and its settings.
+use crate::control::ranges::Ranges;
+use crate::control::ranges::are_ranges;
+use record::feature::Feature;
+ghost use mathlib.Core.Path.{_≡_};
+ghost use Rattle.service.specs.Control.Machine.{usable, is as Machine·is, someone, without as Machine·without, fresh as Machine·fresh, held-by, freed as Machine·freed, going as Machine·going, storing as Machine·storing, cleared};
+
+// Nobody, or a client by its number.
+pub enum Who {
+    Nobody,
+    Client(u8),
+}
+
+pub enum Mode {
+    Stopped,
+    Running,
+    Paused,
+}
+
+// What a machine is opened with: "A machine is opened with a Feature value and its ranges."
+pub struct Setup {
+    pub feature: Feature,
+    pub ranges: Ranges,
+}
+
+pub struct Machine {
+    pub setup: Setup,
+    pub holder: Who,
+    pub mode: Mode,
+    pub settings: [u8; 49],
+}
+
+impl Setup {
+    // Whether a machine can be opened with it: 16 where it cannot.
+    pub(crate) fn is_usable(self) -> bool
+        ensures { λ r. ⌜ r ≡ usable self ⌝ }
+    {
+        let ranges = self.ranges;
+        are_ranges(ranges)
+    }
+}
+
+impl Who {
+    // Whether it is this client.
+    pub(crate) fn is(self, client: u8) -> bool
+        ensures { λ r. ⌜ r ≡ Machine·is self client ⌝ }
+    {
+        match self {
+            Who::Nobody => false,
+            Who::Client(d) => d == client,
+        }
+    }
+
+    pub(crate) fn is_someone(self) -> bool
+        ensures { λ r. ⌜ r ≡ someone self ⌝ }
+    {
+        match self {
+            Who::Nobody => false,
+            Who::Client(_) => true,
+        }
+    }
+
+    // Who is left when a client goes.
+    pub(crate) fn without(self, client: u8) -> Who
+        ensures { λ r. ⌜ r ≡ Machine·without self client ⌝ }
+    {
+        if self.is(client) {
+            return Who::Nobody;
+        }
+        self
+    }
+}
+
+impl Machine {
+    // "At first it is stopped, no client is connected, nobody holds control, and every setting is zero."
+    pub(crate) fn fresh(setup: Setup) -> Machine
+        ensures { λ r. ⌜ r ≡ Machine·fresh setup ⌝ }
+    {
+        Machine {
+            setup,
+            holder: Who::Nobody,
+            mode: Mode::Stopped,
+            settings: [0u8; 49],
+        }
+    }
+
+    // Control goes to this client, or to nobody.
+    pub(crate) fn held(self, holder: Who) -> Machine
+        ensures { λ r. ⌜ r ≡ held-by self holder ⌝ }
+    {
+        let setup = self.setup;
+        let mode = self.mode;
+        let settings = self.settings;
+        Machine {
+            setup,
+            holder,
+            mode,
+            settings,
+        }
+    }
+
+    // A client goes: "Disconnect frees control held by that client".
+    pub(crate) fn freed(self, client: u8) -> Machine
+        ensures { λ r. ⌜ r ≡ Machine·freed self client ⌝ }
+    {
+        let held = self.holder;
+        let holder = held.without(client);
+        self.held(holder)
+    }
+
+    // The machine stops, runs or pauses.
+    pub(crate) fn going(self, mode: Mode) -> Machine
+        ensures { λ r. ⌜ r ≡ Machine·going self mode ⌝ }
+    {
+        let setup = self.setup;
+        let holder = self.holder;
+        let settings = self.settings;
+        Machine {
+            setup,
+            holder,
+            mode,
+            settings,
+        }
+    }
+
+    // The settings are these.
+    pub(crate) fn storing(self, settings: [u8; 49]) -> Machine
+        ensures { λ r. ⌜ r ≡ Machine·storing self settings ⌝ }
+    {
+        let setup = self.setup;
+        let holder = self.holder;
+        let mode = self.mode;
+        Machine {
+            setup,
+            holder,
+            mode,
+            settings,
+        }
+    }
+
+    // "01 zeroes every setting, stops and frees control".
+    pub(crate) fn reset(self) -> Machine
+        ensures { λ r. ⌜ r ≡ cleared self ⌝ }
+    {
+        let setup = self.setup;
+        Machine::fresh(setup)
+    }
+}
