@@ -7,7 +7,7 @@ import os
 import re
 import sys
 
-LIBRARIES = ["kinds", "wire", "values", "record", "text", "codes", "machine", "console", "service", "reference", "output", "entries", "listing", "demands", "phone"]
+LIBRARIES = ["record", "service", "text", "reference", "output", "listing", "demands", "phone"]
 
 # What its calls print is promised by no contract, so that an edit by chance says nothing; only its other calls are tried.
 PRINTING = "output"
@@ -91,11 +91,12 @@ class Source:
         self.text, self.files = {}, []
         self.constants, self.structs, self.enums = {}, [], {}
         for name in LIBRARIES:
-            for base in sorted(os.listdir(os.path.join(crates, name, "src"))):
-                file = f"{name}/src/{base}"
-                self.files.append(file)
-                self.text[file] = open(os.path.join(crates, file)).read()
-                self.declared(file)
+            for folder, _, bases in sorted(os.walk(os.path.join(crates, name, "src"))):
+                for base in sorted(bases):
+                    file = os.path.relpath(os.path.join(folder, base), crates)
+                    self.files.append(file)
+                    self.text[file] = open(os.path.join(crates, file)).read()
+                    self.declared(file)
 
     def declared(self, file):
         text, family, at = self.text[file], 0, 0
@@ -224,7 +225,7 @@ def wrong_programs(path):
         if "⇒" in line:
             found[-1].old, found[-1].new = line.split(" ⇒ ")
             continue
-        head = re.fullmatch(r"(\w+)/(\w+\.rt) (\w+)(?: in (\w+))?: (.*)", line)
+        head = re.fullmatch(r"(\w+)/([\w/]+\.rt) (\w+)(?: in (\w+))?: (.*)", line)
         if not head:
             sys.exit(f"strength: not a head of a wrong program: {line}")
         crate, base, function, place, words = head.groups()
@@ -236,10 +237,10 @@ def public_functions(source):
     """The public functions, by their file and name, with their full names."""
     found = {}
     for file in source.files:
-        crate, _, base = file.split("/")
+        crate, _, base = file.split("/", 2)
         for name, head in re.findall(r'\bpub (?:extern "C" )?fn (\w+)([^{]*)\{', source.text[file]):
             if crate != PRINTING or "ensures" in head:
-                found[file, name] = "::".join([crate] + [base[:-3]] * (base != "lib.rt") + [name])
+                found[file, name] = "::".join([crate] + base[:-3].split("/") * (base != "lib.rt") + [name])
     return found
 
 

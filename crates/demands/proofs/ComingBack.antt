@@ -15,7 +15,7 @@ use Rattle.service.specs.declared.collector.Told.the-variants.{Open}
 use Rattle.service.specs.declared.collector.Collection.{Collection}
 use Rattle.service.specs.Collector.{Said, waiting, handed, Stepped, zeros, empty, collect}
 use Rattle.demands.specs.Behaviour.{each, says, same-record}
-use Rattle.demands.proofs.Lowest.{ready-open}
+use Rattle.demands.proofs.Dropping.{ready-open}
 use Rattle.demands.proofs.Taken.{Sent, parts}
 use Rattle.demands.proofs.Held.{held-none, whole-first, sets, record-cuts}
 use Rattle.demands.proofs.Pieces.{collector, least, most, each-of}

@@ -29,7 +29,7 @@ use Rattle.service.specs.declared.collector.Told.the-variants.{Open, Fixed}
 use Rattle.service.specs.Collector as Collector
 use Rattle.service.specs.Collector.{empty, told-known, opens}
 use Rattle.demands.specs.Behaviour.{SplitsAsPromised, CollectsAsPromised}
-use Rattle.demands.proofs.Lowest.{Ready, ready-open, ready-fixed}
+use Rattle.demands.proofs.Dropping.{Ready, ready-open, ready-fixed}
 use Rattle.demands.proofs.Taken.{Sent}
 
 -- any reply, and anything left at exit, for octets that are lent at any place

@@ -17,7 +17,7 @@ use Rattle.service.specs.declared.collector.Collection.{Collection}
 use Rattle.service.specs.Collector.{Said, waiting, handed, Stepped, zeros, collect, empty}
 use Rattle.demands.specs.Behaviour.{Splitter, says, SplitsAsPromised, CollectsAsPromised, collector-of}
 use Rattle.demands.specs.Demands.{Short, Demand2}
-use Rattle.demands.proofs.Lowest.{Ready, ready-open, ready-fixed}
+use Rattle.demands.proofs.Dropping.{Ready, ready-open, ready-fixed}
 use Rattle.demands.proofs.Taken.{Sent, sent, part, parts, with-numbers, holding}
 use Rattle.demands.proofs.Held.{Held, held-none, held-next, whole-first, whole-next, goes-on, hands, record-cuts}
 use Rattle.demands.proofs.Pieces.{splitter, collector, is-splitter, is-collector, low, high, pieces-are}

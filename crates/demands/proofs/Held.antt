@@ -24,7 +24,7 @@ use Rattle.record.proofs.Kept.{kept-or}
 use Rattle.record.proofs.Cuts.{Cuts, cuts, both-parts, mod-multiple}
 use Rattle.record.proofs.Parts.{sub-main, sub-suc, sub-le, the-sound, groups-even, groups-low}
 use Rattle.record.proofs.Partition.{part-sub, rest-sub}
-use Rattle.demands.proofs.Lowest.{keeps, falls, Ready, ready-fixed, inside, complete}
+use Rattle.demands.proofs.Dropping.{keeps, falls, Ready, ready-fixed, inside, complete}
 use Rattle.demands.proofs.Taken.{Sent, part, with-numbers, holding, goes, renews, ends}
 
 -- ---- a record's groups

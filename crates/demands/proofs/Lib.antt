@@ -1,4 +1,4 @@
-pub mod Lowest
+pub mod Dropping
 pub mod Taken
 pub mod Held
 pub mod Pieces

@@ -17,7 +17,7 @@ use Rattle.service.specs.declared.collector.Told.the-variants.{Fixed}
 use Rattle.service.specs.Collector.{handed, refused, zeros, collect}
 use Rattle.demands.specs.Behaviour.{heard}
 use Rattle.demands.specs.Demands.{Waits, last-of, Gaps}
-use Rattle.demands.proofs.Lowest.{ready-fixed}
+use Rattle.demands.proofs.Dropping.{ready-fixed}
 use Rattle.demands.proofs.Taken.{Sent, part, parts, with-numbers, holding}
 use Rattle.demands.proofs.Held.{Held, held-none, held-next, held-lost, whole-next, goes-on, starts, hands, lacks, sets, record-cuts}
 use Rattle.demands.proofs.Pieces.{collector}

@@ -3,6 +3,7 @@ use record::formed::well_formed;
 use record::notification::LONGEST;
 use record::numbers::numbers_of;
 use record::record::Record;
+use record::split::MOST_PARTS;
 use record::split::SplitAnswer;
 use record::split::is_payload;
 use record::split::split;
@@ -21,9 +22,6 @@ ghost use Rattle.record.specs.Split.{payload-known, sets-of, part-octets};
 ghost use Rattle.service.specs.Collector.{meant, collect as Collector·collect};
 ghost use Rattle.demands.specs.Behaviour.{equal, same-record};
 
-// No record has more parts.
-const MOST_PARTS: usize = 16;
-
 // Whether two rows of wire numbers are the same.
 fn same_numbers(a: &[u32], b: &[u32]) -> bool
     ensures { λ r. ⌜ r ≡ equal (now (a .entry)) (now (b .entry)) ⌝ }
@@ -40,7 +38,7 @@ fn same_numbers(a: &[u32], b: &[u32]) -> bool
 }
 
 // Whether two records are equal in kind, groups, direction and every value.
-pub fn same(a: Record, b: Record) -> bool
+fn same(a: Record, b: Record) -> bool
     ensures { λ r. ⌜ r ≡ same-record a b ⌝ }
 {
     if a.kind != b.kind {

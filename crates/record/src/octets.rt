@@ -133,14 +133,6 @@ pub(crate) fn put_u32(out: &mut [u8], at: usize, x: u32)
     }
 }
 
-// Writes the two octets of a signed number.
-pub(crate) fn put_s16(out: &mut [u8], at: usize, z: i16)
-    ensures { λ r. ⌜ now (out .exit) ≡ placed (now (out .entry)) at (spelled 2 (Octets·unsigned z)) ⌝ }
-{
-    let bits = unsigned(z);
-    put_u16(out, at, bits);
-}
-
 // Writes a number in the octets of a width: an s16 is given as its sixteen bits.
 pub(crate) fn put_value(out: &mut [u8], at: usize, width: Width, x: u32)
     ensures { λ r. ⌜ now (out .exit) ≡ placed (now (out .entry)) at (spelled (octets-of width) x) ⌝ }

@@ -42,7 +42,7 @@ pub fn is_payload(payload: usize) -> bool
 }
 
 // No record has more parts.
-const MOST_PARTS: usize = 16;
+pub const MOST_PARTS: usize = 16;
 
 // A part's length in octets, and the number of parts of its record.
 pub struct Extent {

@@ -16,6 +16,7 @@ use record::record::Slope;
 use record::record::StepRates;
 use record::record::Stroke;
 use record::refusal::Refusal;
+use record::split::MOST_PARTS;
 use record::split::SplitAnswer;
 use record::split::split;
 use service::collector::Collected;
@@ -27,9 +28,6 @@ use service::collector::open;
 
 // The most octets of a notification; 20 is the least payload that the splitter takes.
 const PAYLOAD: usize = 20;
-
-// No record has more parts.
-const MOST_PARTS: usize = 16;
 
 // No record's lines are longer.
 const LINES: usize = 1024;

@@ -1,13 +1,13 @@
 -- The lowest group of a set.
-use Prim.Native.Nat.{ℕ, zero, suc, _+_, _*_, _/_, _%_, _^_, _<_}
+use Prim.Native.Nat.{ℕ, zero, suc, _+_, _*_, _/_, _%_, _^_, _<_, _≤_, zero-le}
 use mathlib.Core.Path.{_≡_, refl, sym, _∙_}
 use mathlib.Core.Bool.{true, false}
-use native.Mathlib.Nat.{pow-suc}
+use native.Mathlib.Nat.{mod-one, pow-suc}
 use native.Mathlib.Omega.{arith}
 use lib.Dec.{eqb}
 use Rattle.record.specs.Groups.{has}
 use Rattle.record.proofs.Sets.{has-zero, has-half, mod-digit}
-use Rattle.record.proofs.Tests.{eqb-false}
+use Rattle.record.proofs.Tests.{passed, failed, tested, eqb-false, eqb-eq, eqb-ne}
 use Rattle.service.specs.Collector.{lowest}
 
 -- it is the bit below which there is none
@@ -30,3 +30,31 @@ lowest-none (suc n) set z =
     let d : eqb (set % 2) 1 ≡ false = eqb-false (λ (x : set % 2 ≡ 1). omega arith) in
     let ih : lowest n (set / 2) ≡ 0 = lowest-none n (set / 2) (omega arith) in
     rw (d, ih)
+
+-- as a number it is at most the set
+pub lowest-le : (n a : ℕ) → lowest n a ≤ a
+unfolding lowest
+lowest-le zero a = zero-le
+lowest-le (suc n) a = elim (tested (eqb (a % 2) 1)) [
+  | passed e ↦ let h : a % 2 ≡ 1 = eqb-eq (a % 2) 1 e in rw e (omega arith)
+  | failed e ↦ rw e (let h : lowest n (a / 2) ≤ a / 2 = lowest-le n (a / 2) in omega arith)
+]
+
+-- and at least the bit below which there is none
+pub lowest-ge : (n k a : ℕ) → 0 < a → a < 2 ^ n → a % 2 ^ k ≡ 0 → 2 ^ k ≤ lowest n a
+unfolding lowest
+lowest-ge zero k a h l d = absurd (omega arith)
+lowest-ge (suc n) zero a h l d = elim (tested (eqb (a % 2) 1)) [
+  | passed e ↦ rw e (omega arith)
+  | failed e ↦
+      let m : a % 2 ≡ 1 → ⊥ = eqb-ne (a % 2) 1 e in
+      let p : a < 2 ^ n * 2 = rw (← pow-suc 2 n) l in
+      let ih : 1 ≤ lowest n (a / 2) = lowest-ge n zero (a / 2) (omega arith) (omega arith) (mod-one (a / 2)) in
+      rw e (omega arith)
+]
+lowest-ge (suc n) (suc k) a h l d =
+    let m : a / 2 % 2 ^ k * 2 + a % 2 ≡ 0 = sym (mod-digit a k) ∙ d in
+    let e : eqb (a % 2) 1 ≡ false = eqb-false (λ (x : a % 2 ≡ 1). omega arith) in
+    let p : a < 2 ^ n * 2 = rw (← pow-suc 2 n) l in
+    let ih : 2 ^ k ≤ lowest n (a / 2) = lowest-ge n k (a / 2) (omega arith) (omega arith) (omega arith) in
+    rw (e, pow-suc 2 k) (omega arith)

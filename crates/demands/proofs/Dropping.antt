@@ -1,47 +1,17 @@
--- The lowest group of a set, and when a part drops what is held.
-use Prim.Native.Nat.{ℕ, zero, suc, _+_, _*_, _/_, _%_, _^_, _<_, _≤_, zero-le}
-use mathlib.Core.Path.{_≡_, refl, sym, _∙_}
+-- When a part drops what is held, by its lowest group.
+use Prim.Native.Nat.{ℕ, _*_, _^_, _<_, _≤_}
+use mathlib.Core.Path.{_≡_, refl}
 use mathlib.Core.Bool.{true, false}
 use native.Mathlib.Omega.{arith}
-use native.Mathlib.Nat.{mod-one, pow-suc}
 use lib.Dec.{eqb, leb}
 use lib.Bits.{and-comm, and-shifted}
 use Rattle.service.specs.declared.collector.Told.{Told}
 use Rattle.service.specs.declared.collector.Told.the-variants.{Open, Fixed}
 use Rattle.service.specs.Collector.{lowest, drops, outside, incomplete}
-use Rattle.record.proofs.Sets.{Sub, and-of-sub, mod-digit}
-use Rattle.record.proofs.Tests.{passed, failed, tested, leb-true, leb-false, eqb-true, eqb-false, eqb-eq, eqb-ne}
+use Rattle.record.proofs.Sets.{Sub, and-of-sub}
+use Rattle.record.proofs.Tests.{passed, failed, tested, leb-true, leb-false, eqb-true, eqb-false, eqb-ne}
 use Rattle.record.proofs.Cuts.{mod-multiple}
-
--- ---- the lowest group of a set, as a number
-
-lowest-le : (n a : ℕ) → lowest n a ≤ a
-unfolding lowest
-lowest-le zero a = zero-le
-lowest-le (suc n) a = elim (tested (eqb (a % 2) 1)) [
-  | passed e ↦ let h : a % 2 ≡ 1 = eqb-eq (a % 2) 1 e in rw e (omega arith)
-  | failed e ↦ rw e (let h : lowest n (a / 2) ≤ a / 2 = lowest-le n (a / 2) in omega arith)
-]
-
-lowest-ge : (n k a : ℕ) → 0 < a → a < 2 ^ n → a % 2 ^ k ≡ 0 → 2 ^ k ≤ lowest n a
-unfolding lowest
-lowest-ge zero k a h l d = absurd (omega arith)
-lowest-ge (suc n) zero a h l d = elim (tested (eqb (a % 2) 1)) [
-  | passed e ↦ rw e (omega arith)
-  | failed e ↦
-      let m : a % 2 ≡ 1 → ⊥ = eqb-ne (a % 2) 1 e in
-      let p : a < 2 ^ n * 2 = rw (← pow-suc 2 n) l in
-      let ih : 1 ≤ lowest n (a / 2) = lowest-ge n zero (a / 2) (omega arith) (omega arith) (mod-one (a / 2)) in
-      rw e (omega arith)
-]
-lowest-ge (suc n) (suc k) a h l d =
-    let m : a / 2 % 2 ^ k * 2 + a % 2 ≡ 0 = sym (mod-digit a k) ∙ d in
-    let e : eqb (a % 2) 1 ≡ false = eqb-false (λ (x : a % 2 ≡ 1). omega arith) in
-    let p : a < 2 ^ n * 2 = rw (← pow-suc 2 n) l in
-    let ih : 2 ^ k ≤ lowest n (a / 2) = lowest-ge n k (a / 2) (omega arith) (omega arith) (omega arith) in
-    rw (e, pow-suc 2 k) (omega arith)
-
--- ---- dropping
+use Rattle.service.proofs.Lowest.{lowest-le, lowest-ge}
 
 -- groups that stand above all that are held drop nothing
 pub keeps : (t : Told) (h p b : ℕ) → h < 2 ^ b → p * 2 ^ b < 2 ^ 15 → drops t h (p * 2 ^ b) ≡ false
