@@ -1,6 +1,5 @@
 // Demand 2 as running code: a record, split and collected, comes back equal.
 use record::formed::well_formed;
-use record::notification::LONGEST;
 use record::numbers::numbers_of;
 use record::record::Record;
 use record::split::MOST_PARTS;

@@ -1,7 +1,7 @@
 -- A rule of the op codes is a test that computes over the table: it holds of whatever the table says of an op code.
 use Prim.Native.Nat.{ℕ, _+_, _≤_}
 use mathlib.Core.Path.{_≡_, refl, sym}
-use mathlib.Core.Bool.{Bool, true, _&&_}
+use mathlib.Core.Bool.{Bool, true}
 use mathlib.Core.List.{List, [], _∷_}
 use native.Mathlib.Omega.{arith}
 use lib.Dec.{eqb, leb}
@@ -10,7 +10,6 @@ use Rattle.record.proofs.Tests.{passed, failed, tested, leb-le, eqb-eq, and-l, 
 use Rattle.service.specs.declared.control.op_codes.OpCode.{OpCode}
 use Rattle.service.specs.declared.control.op_codes.Act.{Act}
 use Rattle.service.specs.declared.control.op_codes.Act.the-variants.{TakesControl, Resets, Starts, Halts, Stores}
-use Rattle.service.specs.declared.control.op_codes.Lookup.{Lookup}
 use Rattle.service.specs.declared.control.op_codes.Lookup.the-variants.{Known, Unknown}
 use Rattle.service.specs.Control.OpCodes.{Line, table, look-up, op-code}
 use Rattle.service.specs.Control.Parameters.{size}

@@ -1,5 +1,4 @@
 -- Lines of the op codes, by computation: document 01's numbers.
-use Prim.Native.Nat.{ℕ}
 use mathlib.Core.Path.{_≡_, refl}
 use mathlib.Core.List.{List, [], _∷_}
 use Rattle.record.specs.declared.layout.Width.{Width}
@@ -37,7 +36,7 @@ pub statuses :
 unfolding op-code
 statuses = (refl, refl, refl, refl, refl, refl, refl)
 
--- spin down, 13, is in no line: "its op code is answered \"not supported\""
+-- 13 is in no line: "spin down (its op code is answered "not supported")"
 pub no-spin-down : op-code 0x13 ≡ Unknown
 unfolding op-code
 no-spin-down = refl

@@ -2,7 +2,6 @@
 use mathlib.Core.Path.{_≡_, sym, ap, _∙_}
 use borrow.Author.Needs.{needs}
 use denote.Ref.{now}
-use Rattle.record.specs.declared.feature.Feature.{Feature}
 use Rattle.record.specs.Answer.{given}
 use Rattle.record.specs.Feature.{feature-of, meant}
 use Rattle.service.specs.Control.Calls.{opening}

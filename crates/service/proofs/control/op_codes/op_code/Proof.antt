@@ -1,5 +1,5 @@
 -- `op_code` meets its contract: line by line, and none past the last. Assumes nothing.
-use mathlib.Core.Path.{sym, _∙_}
+use mathlib.Core.Path.{sym}
 use borrow.Author.Needs.{needs}
 use Rattle.service.specs.Control.OpCodes.{op-code}
 use Rattle.service.proofs.ControlLaws.Rule.{not-there}
