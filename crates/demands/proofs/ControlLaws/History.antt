@@ -2,12 +2,12 @@
 -- successful reset and no disconnect since, otherwise nobody."
 use Prim.Native.Nat.{ℕ}
 use mathlib.Core.Path.{_≡_, refl, sym, ap, _∙_}
-use mathlib.Core.Bool.{Bool, true, false, cond, _&&_, _||_, true≢false}
+use mathlib.Core.Bool.{Bool, true, false, cond, _&&_}
 use mathlib.Core.List.{List, [], _∷_}
 use native.Mathlib.Omega.{arith}
 use lib.Dec.{eqb}
 use Rattle.record.specs.Answer.{Answer, refused, given}
-use Rattle.record.proofs.Tests.{passed, failed, tested, eqb-eq, eqb-false, eqb-same}
+use Rattle.record.proofs.Tests.{passed, failed, tested, eqb-eq, eqb-ne, eqb-false, eqb-same}
 use Rattle.service.specs.declared.control.Console.{Console}
 use Rattle.service.specs.declared.control.machine.Machine.{Machine}
 use Rattle.service.specs.declared.control.machine.Setup.{Setup}
@@ -17,19 +17,17 @@ use Rattle.service.specs.declared.control.op_codes.OpCode.{OpCode}
 use Rattle.service.specs.declared.control.op_codes.Act.{Act}
 use Rattle.service.specs.declared.control.op_codes.Act.the-variants.{TakesControl, Resets, Starts, Halts, Stores}
 use Rattle.service.specs.declared.control.op_codes.Lookup.the-variants.{Known}
-use Rattle.service.specs.declared.control.judging.WriteResult.{WriteResult}
-use Rattle.service.specs.declared.control.judging.WriteResult.the-variants.{Success, NotSupported, InvalidParameter, OperationFailed, ControlNotPermitted}
+use Rattle.service.specs.declared.control.judging.WriteResult.the-variants.{Success}
 use Rattle.service.specs.Control.OpCodes.{op-code}
 use Rattle.service.specs.Control.Machine.{without, held-by}
-use Rattle.service.specs.Control.Judging.{result-number, succeeds, controls}
-use Rattle.service.specs.Control.Effects.{response-octets, status-octets, done}
+use Rattle.service.specs.Control.Judging.{result-number, controls}
+use Rattle.service.specs.Control.Effects.{response-octets, done}
 use Rattle.service.specs.Control.Console.{first}
 use Rattle.service.specs.Control.Replies.{Sent, sent}
 use Rattle.service.specs.Control.Calls.{Opening, opened, writes}
-use Rattle.service.proofs.ControlLaws.Fits.{Granted}
-use Rattle.service.proofs.ControlLaws.Rule.{table-rule}
 use Rattle.demands.specs.Control.Point.{Call, connect, disconnect, confirm, indicate, write, service, Event, event, step, run}
 use Rattle.demands.specs.Control.Laws.{by, result-in, succeeded, is-disconnect, ends, unless-ended, holder-by}
+use Rattle.demands.proofs.ControlLaws.Numbers.{Number, number-so, not-01}
 use Rattle.demands.proofs.ControlLaws.Steps.{responding, Stepped, refusal, connected, gone, indicated, confirmed, denied, granted, steps}
 use Rattle.demands.proofs.ControlLaws.Kept.{opened-first}
 use Rattle.demands.proofs.ControlLaws.Changes.{is-client}
@@ -73,16 +71,71 @@ and-no : (x : Bool) → (x && false) ≡ false
 and-no true = refl
 and-no false = refl
 
--- a result that is no success is not said by 01
-pub not-01 : (r : WriteResult) → succeeds r ≡ false → eqb (result-number r) (result-number Success) ≡ false
-not-01 Success e = absurd (true≢false e)
-not-01 NotSupported e = refl
-not-01 InvalidParameter e = refl
-not-01 OperationFailed e = refl
-not-01 ControlNotPermitted e = refl
+-- a write that succeeds
+module _ (m : Machine) (c o : ℕ) (p said : List ℕ) where
+  abbrev success-event : Event
+  success-event = event (write c (o ∷ p)) (sent (response-octets o Success) said)
 
--- 00 takes control, 01 frees it, and no other op code does either: a test that computes over the table
-abbrev moves-control : ℕ → Act → Bool
-moves-control o TakesControl = eqb o 0x00
-moves-control o Resets = eqb o 0x01
-moves-control o Starts = not (eqb o 0x00 || eqb o 0x01)
+  unmoved : (eqb o 0x00 ≡ false) × (eqb o 0x01 ≡ false) → m .holder ≡ next success-event (m .holder)
+  unmoved e = stays success-event (m .holder) (e .0) (λ d. rw (e .1))
+
+  next-done : (a : Act) → Number o a → controls (m .holder) c a ≡ true → done m c a p .holder ≡ next success-event (m .holder)
+  unfolding next
+  next-done TakesControl n h = rw n
+  next-done Resets n h = rw (n, is-client (m .holder) c h, eqb-same c)
+  next-done Starts n h = unmoved (eqb-false (λ (e : o ≡ 0). omega arith), eqb-false (λ (e : o ≡ 1). omega arith))
+  next-done Halts n h = unmoved (eqb-false (λ (e : o ≡ 0). omega arith), eqb-false (λ (e : o ≡ 1). omega arith))
+  next-done (Stores at) n h = unmoved (eqb-false (λ (e : o ≡ 0). omega arith), eqb-false (λ (e : o ≡ 1). omega arith))
+
+next-gone : (c : ℕ) (w : Who) → without w c ≡ next (event (disconnect c) (sent [] [])) w
+unfolding next
+next-gone c Nobody = refl
+next-gone c (Client d) = elim (tested (eqb d c)) [
+  | passed e ↦ rw (eqb-eq d c e, eqb-same c)
+  | failed e ↦ rw (e, eqb-false (λ (f : c ≡ d). eqb-ne d c e (sym f)))
+]
+
+next-stepped : (k : Console) {q : Call} {x : Answer Sent × Console} → Stepped k q x → x .1 .machine .holder ≡ next (event q (x .0)) (k .machine .holder)
+next-stepped k {q} (refusal n l g) =
+    stays (event q (refused n)) (k .machine .holder) refl (λ d. rw (eqb-false (λ (e : n ≡ 0). omega arith), and-no (is-disconnect q)))
+next-stepped k (connected c h e) = stays (event (connect c) (sent [] [])) (k .machine .holder) refl (λ d. refl)
+next-stepped k (gone c h e) = next-gone c (k .machine .holder)
+next-stepped k (indicated c on h e) = stays (event (indicate c on) (sent [] [])) (k .machine .holder) refl (λ d. refl)
+next-stepped k (confirmed c h e f) = stays (event (confirm c) (sent [] [])) (k .machine .holder) refl (λ d. refl)
+next-stepped k (denied c o p h r e) =
+    stays (event (write c (o ∷ p)) (sent (response-octets o r) [])) (k .machine .holder) (rw (not-01 r e)) (λ d. rw (not-01 r e))
+next-stepped k (granted c o p h x e g) = next-done (k .machine) c o p _ (x .act) (number-so o x e) (g .controlled)
+
+-- ---- sequences of calls
+
+follows : (k : Console) (past : List Event) (qs : List Call) → k .machine .holder ≡ recent past →
+    run service k past qs .1 .machine .holder ≡ recent (run service k past qs .0)
+unfolding run
+follows k past [] e = e
+follows k past (q ∷ qs) e =
+    follows (step k q .1) (event q (step k q .0) ∷ past) qs (next-stepped k (steps k q) ∙ (unfold recent in ap (next (event q (step k q .0))) e))
+
+pub holder-by-history : (o : Opening) (k : Console) → opened o ≡ given k → (qs : List Call) →
+    run service k [] qs .1 .machine .holder ≡ holder-by (run service k [] qs .0) []
+unfolding recent
+holder-by-history o k e qs =
+    let f : (s : Setup) × (k ≡ first s) = opened-first o k e in
+    follows k [] qs (rw (f .1)) ∙ sym (by-recent (run service k [] qs .0) [] ∙ none-ended (recent (run service k [] qs .0)))
+
+-- ---- what a 00 that succeeds changes: who is awaited and who holds control
+pub taken : (k : Console) (c : ℕ) (p : List ℕ) → result-in (writes k c (0x00 ∷ p) .0) ≡ result-number Success →
+    writes k c (0x00 ∷ p) .1 ≡ responding k (held-by (k .machine) (Client c)) c
+taken k c p h = from (steps k (write c (0x00 ∷ p))) h
+  where
+    from-act : (a : Act) → Number 0x00 a → responding k (done (k .machine) c a p) c ≡ responding k (held-by (k .machine) (Client c)) c
+    from-act TakesControl n = refl
+    from-act Resets n = absurd (omega arith)
+    from-act Starts n = absurd (omega arith)
+    from-act Halts n = absurd (omega arith)
+    from-act (Stores at) n = absurd (omega arith)
+
+    from : {x : Answer Sent × Console} → Stepped k (write c (0x00 ∷ p)) x → result-in (x .0) ≡ result-number Success →
+        x .1 ≡ responding k (held-by (k .machine) (Client c)) c
+    from (refusal n l g) e = absurd (omega arith)
+    from (denied c o p i r f) e = absurd (eqb-ne (result-number r) 1 (not-01 r f) e)
+    from (granted c o p i x f g) e = from-act (x .act) (number-so 0x00 x f)
