@@ -24,7 +24,7 @@ use record::feature::Feature;
 use record::feature::FeatureAnswer;
 use record::refusal::Refusal;
 ghost use mathlib.Core.Path.{_≡_};
-ghost use mathlib.Core.List.{[]};
+ghost use Prim.Native.Nat.{_≤_};
 ghost use Rattle.record.specs.Refusal.{number-of};
 ghost use Rattle.service.specs.Control.Counted.{boxed};
 ghost use Rattle.service.specs.Control.Effects.{response-octets, setting as Effects·setting};
@@ -154,15 +154,14 @@ impl Console {
 
     // The console with another client in a client's place.
     fn with(self, client: u8, state: Client) -> Console
+        requires { ⌜ client ≤ 3 ⌝ }
         ensures { λ r. ⌜ r ≡ with-client self client state ⌝ }
     {
         let machine = self.machine;
         let awaited = self.awaited;
         let mut clients = self.clients;
         let c = client as usize;
-        if c < 4 {
-            clients[c] = state;
-        }
+        clients[c] = state;
         Console {
             machine,
             clients,
@@ -294,7 +293,8 @@ impl Console {
         let before = self.machine;
         let clients = self.clients;
         let performed = perform(before, client, op, p);
-        let response = response(op, performed.result);
+        let result = performed.result;
+        let response = response(op, result);
         let status = performed.status;
         let machine = performed.machine;
         Reply {

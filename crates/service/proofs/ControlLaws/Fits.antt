@@ -2,8 +2,7 @@
 use Prim.Native.Nat.{ℕ, _≤_}
 use mathlib.Core.Path.{_≡_, refl, sym, _∙_}
 use mathlib.Core.Bool.{Bool, true, false, true≢false}
-use mathlib.Core.List.{List}
-use native.Mathlib.Omega.{arith}
+use mathlib.Core.List.{List, []}
 use lib.Dec.{eqb}
 use lib.ListN.{length}
 use Rattle.record.specs.Octets.{number}
@@ -11,14 +10,15 @@ use Rattle.record.proofs.Tests.{passed, failed, tested, eqb-eq, and-l, and-r}
 use Rattle.service.specs.declared.control.ranges.Ranges.{Ranges}
 use Rattle.service.specs.declared.control.machine.Machine.{Machine}
 use Rattle.service.specs.declared.control.op_codes.OpCode.{OpCode}
-use Rattle.service.specs.declared.control.op_codes.Lookup.the-variants.{Known}
+use Rattle.service.specs.declared.control.op_codes.Lookup.the-variants.{Known, Unknown}
 use Rattle.service.specs.declared.control.judging.WriteResult.{WriteResult}
-use Rattle.service.specs.declared.control.judging.WriteResult.the-variants.{Success}
+use Rattle.service.specs.declared.control.judging.WriteResult.the-variants.{Success, NotSupported, InvalidParameter, OperationFailed, ControlNotPermitted}
 use Rattle.service.specs.Control.Ranges.{allowed}
 use Rattle.service.specs.Control.OpCodes.{op-code}
 use Rattle.service.specs.Control.Parameters.{size}
-use Rattle.service.specs.Control.Judging.{result-number, succeeds, supports, controls, fit, fails, first-of, judged}
-use Rattle.service.specs.Control.Effects.{Room}
+use Rattle.service.specs.Control.Counted.{boxed}
+use Rattle.service.specs.Control.Judging.{succeeds, supports, controls, fit, fails, first-of, judged}
+use Rattle.service.specs.Control.Effects.{Room, done, status-octets, performs}
 use Rattle.service.proofs.ControlLaws.Rule.{size-most, room-for}
 
 module _ (ranges : Ranges) (x : OpCode) (p : List ℕ) (g : fit ranges x p ≡ true) where
@@ -77,3 +77,24 @@ granted-so m c x p e = from (judged-so m c x p) e
     from : {r : WriteResult} → Judged m c x p r → succeeds r ≡ true → Granted m c x p
     from (against f) e = absurd (true≢false (sym e ∙ f))
     from (for g) e = g
+
+-- ---- what a write gives, by what the table says of its op code and by its result
+
+success-of : (r : WriteResult) → succeeds r ≡ true → r ≡ Success
+success-of Success e = refl
+success-of NotSupported e = absurd (true≢false (sym e))
+success-of InvalidParameter e = absurd (true≢false (sym e))
+success-of OperationFailed e = absurd (true≢false (sym e))
+success-of ControlNotPermitted e = absurd (true≢false (sym e))
+
+module _ (m : Machine) (c o : ℕ) (p : List ℕ) where
+  pub performs-unknown : op-code o ≡ Unknown → performs m c o p ≡ record { result = NotSupported; status = boxed []; machine = m }
+  performs-unknown e = rw e
+
+  module _ (x : OpCode) (e : op-code o ≡ Known x) where
+    pub performs-granted : succeeds (judged m c x p) ≡ true →
+        performs m c o p ≡ record { result = Success; status = boxed (status-octets (x .status) p); machine = done m c (x .act) p }
+    performs-granted s = rw (e, success-of (judged m c x p) s)
+
+    pub performs-denied : succeeds (judged m c x p) ≡ false → performs m c o p ≡ record { result = judged m c x p; status = boxed []; machine = m }
+    performs-denied s = rw (e, s)

@@ -5,6 +5,7 @@ use mathlib.Core.Bool.{Bool, true, _&&_}
 use mathlib.Core.List.{List, [], _∷_}
 use native.Mathlib.Omega.{arith}
 use lib.Dec.{eqb, leb}
+use borrow.Author.Tests.{ne-eqb}
 use Rattle.record.proofs.Tests.{passed, failed, tested, leb-le, eqb-eq, and-l, and-r, all}
 use Rattle.service.specs.declared.control.op_codes.OpCode.{OpCode}
 use Rattle.service.specs.declared.control.op_codes.Act.{Act}
@@ -39,6 +40,22 @@ module _ (f : ℕ → OpCode → Bool) where
   pub table-rule : all on-line table ≡ true → (o : ℕ) (x : OpCode) → op-code o ≡ Known x → f o x ≡ true
   unfolding op-code
   table-rule h o x e = rule-in table h o x e
+
+-- ---- an op code that is none of a table's, as the last arm of a `match` knows it: each of the others was tried before
+
+abbrev pub NoneOf : Type 0 → List Line → ℕ → Type 0
+NoneOf T [] o = T
+NoneOf T (l ∷ ls) o = NoneOf (T × (o ≡ l .op → ⊥)) ls o
+
+none-in : {T : Type 0} (ls : List Line) (o : ℕ) → NoneOf T ls o → T × (look-up o ls ≡ Unknown)
+none-in [] o t = (t, refl)
+none-in {T} (l ∷ ls) o t =
+    let r : (T × (o ≡ l .op → ⊥)) × (look-up o ls ≡ Unknown) = none-in ls o t in
+    (r .0 .0, rw (ne-eqb o (l .op) (r .0 .1)) (r .1))
+
+pub not-there : (o : ℕ) → NoneOf (Unit {0}) table o → op-code o ≡ Unknown
+unfolding op-code
+not-there o t = none-in table o t .1
 
 -- ---- a parameter has ten octets at most, and a setting lies among the 49
 
