@@ -71,9 +71,12 @@ module _ (k : Console) (c : ℕ) (h : c ≤ 3) where
         rw (ltb-false 3 c h, e) (record {
           four = s .links .four;
           away = e;
-          waits = sym (without-other (k .awaited) c (λ f. true≢false (sym (let p : Present (k .clients) (k .awaited) = s .links .awaited-connected in rw f at p) ∙ e)));
+          waits = sym (another (k .awaited) (s .links .awaited-connected) e);
         })
   ]
+    where
+      another : (w : Who) → Present (k .clients) w → is-connected k c ≡ false → without w c ≡ w
+      another w p e = without-other w c (λ (f : w ≡ Client c). true≢false (sym (rw f at p) ∙ e))
 
   comes : {w : Who} → Away k c w → Back (indicates (connects k c .1) c true .1) c w
   unfolding connects indicates
@@ -102,7 +105,8 @@ module _ (k : Console) (s : Sound k) (c : ℕ) (h : c ≤ 3) (past : List Event)
   pub back-again : someone (without (k .awaited) c) ≡ false → Heard (run service k past (back c) .1) c
   back-again f = record { small = h; joined = comes-back .joined; shown = comes-back .shown; clear = rw (comes-back .waits) f }
 
-  pub back-busy : someone (without (k .awaited) c) ≡ true → (o : ℕ) (p : List ℕ) → refusal-of (writes (run service k past (back c) .1) c (o ∷ p) .0) ≡ 20
+  pub back-busy : someone (without (k .awaited) c) ≡ true → (o : ℕ) (p : List ℕ) →
+      refusal-of (writes (run service k past (back c) .1) c (o ∷ p) .0) ≡ 20
   unfolding writes
   back-busy f o p = rw (ltb-false 3 c h, comes-back .joined, eqb·suc-zero (length p), comes-back .shown, comes-back .waits, f)
 
@@ -116,7 +120,8 @@ present-small l d n e = elim (tested (ltb 3 d)) [
   | failed f ↦ ltb-le 3 d f
 ]
 
-pub confirms-well : (k : Console) → Sound k → (d : ℕ) → k .awaited ≡ Client d → (refusal-of (confirms k d .0) ≡ 0) × (confirms k d .1 .awaited ≡ Nobody)
+pub confirms-well : (k : Console) → Sound k → (d : ℕ) → k .awaited ≡ Client d →
+    (refusal-of (confirms k d .0) ≡ 0) × (confirms k d .1 .awaited ≡ Nobody)
 unfolding confirms
 confirms-well k s d e =
     let p : is-connected k d ≡ true = (let q : Present (k .clients) (k .awaited) = s .links .awaited-connected in rw e at q) in
@@ -131,7 +136,8 @@ never-stuck k s c h = from (k .awaited) refl
     from Nobody e = (back c, back-again k s c h [] (rw e))
     from (Client d) e = (
       confirm d ∷ back c,
-      unfold run in back-again (confirms k d .1) (sound-step k (confirm d) s) c h (event (confirm d) (confirms k d .0) ∷ []) (rw (confirms-well k s d e .1)),
+      unfold run in back-again (confirms k d .1) (sound-step k (confirm d) s) c h (event (confirm d) (confirms k d .0) ∷ [])
+          (rw (confirms-well k s d e .1)),
     )
 
 -- so after any sequence of calls from opening

@@ -5,7 +5,6 @@ use mathlib.Core.Logic.{_⊎_, inl, inr}
 use mathlib.Core.Bool.{true, false, true≢false}
 use mathlib.Core.List.{List, []}
 use native.Mathlib.Omega.{arith}
-use lib.Dec.{eqb}
 use Rattle.record.specs.Answer.{Answer}
 use Rattle.record.specs.Octets.{number}
 use Rattle.record.proofs.Tests.{passed, failed, tested, eqb-eq}
@@ -53,7 +52,8 @@ pub refusals : (k : Console) (q : Call) → (refusal-of (step k q .0) ≡ 0) ⊎
 refusals k q = refused-or-not k (steps k q)
 
 -- ---- "Each then awaits confirmation; 02 to 05 change nothing else."
-only-awaits : (k : Console) {q : Call} {x : Answer Sent × Console} → Stepped k q x → 2 ≤ result-in (x .0) → (status-of (x .0) ≡ []) × (x .1 ≡ awaiting k (by q))
+only-awaits : (k : Console) {q : Call} {x : Answer Sent × Console} → Stepped k q x → 2 ≤ result-in (x .0) →
+    (status-of (x .0) ≡ []) × (x .1 ≡ awaiting k (by q))
 only-awaits k (refusal n l g) h = absurd (omega arith)
 only-awaits k (connected c i e) h = absurd (omega arith)
 only-awaits k (gone c i e) h = absurd (omega arith)
@@ -71,7 +71,8 @@ module _ (m : Machine) (w : Who) where
   spared : {n : Machine} → n .settings ≡ m .settings → n .mode ≡ m .mode → n .setup ≡ m .setup → n .holder ≡ m .holder → Spared m w n
   spared a b d e = record { same-settings = a; same-mode = b; same-setup = d; holder-or-new = inl e }
 
-spared-done : (m : Machine) (c : ℕ) → (m .holder ≡ Client c → ⊥) → (p : List ℕ) (a : Act) → controls (m .holder) c a ≡ true → fails m c a (number 1 p) ≡ false →
+spared-done : (m : Machine) (c : ℕ) → (m .holder ≡ Client c → ⊥) → (p : List ℕ) (a : Act) → controls (m .holder) c a ≡ true →
+    fails m c a (number 1 p) ≡ false →
     Spared m (Client c) (done m c a p)
 spared-done m c n p TakesControl e f = record {
   same-settings = refl;
@@ -84,7 +85,8 @@ spared-done m c n p Starts e f = absurd (n (is-client (m .holder) c e))
 spared-done m c n p Halts e f = absurd (n (is-client (m .holder) c e))
 spared-done m c n p (Stores at) e f = absurd (n (is-client (m .holder) c e))
 
-another-stepped : (k : Console) {q : Call} {x : Answer Sent × Console} → Stepped k q x → (k .machine .holder ≡ by q → ⊥) → Spared (k .machine) (by q) (x .1 .machine)
+another-stepped : (k : Console) {q : Call} {x : Answer Sent × Console} → Stepped k q x → (k .machine .holder ≡ by q → ⊥) →
+    Spared (k .machine) (by q) (x .1 .machine)
 another-stepped k {q} (refusal n l g) h = spared (k .machine) (by q) refl refl refl refl
 another-stepped k (connected c i e) h = spared (k .machine) (Client c) refl refl refl refl
 another-stepped k (gone c i e) h = spared (k .machine) (Client c) refl refl refl (without-other (k .machine .holder) c h)
@@ -101,7 +103,8 @@ pub disconnect-spares : (k : Console) (c : ℕ) →
     (disconnects k c .1 .machine .settings ≡ k .machine .settings) × (disconnects k c .1 .machine .mode ≡ k .machine .mode)
 disconnect-spares k c = from (steps k (disconnect c))
   where
-    from : {x : Answer Sent × Console} → Stepped k (disconnect c) x → (x .1 .machine .settings ≡ k .machine .settings) × (x .1 .machine .mode ≡ k .machine .mode)
+    from : {x : Answer Sent × Console} → Stepped k (disconnect c) x →
+        (x .1 .machine .settings ≡ k .machine .settings) × (x .1 .machine .mode ≡ k .machine .mode)
     from (refusal n l g) = (refl, refl)
     from (gone c i e) = (refl, refl)
 

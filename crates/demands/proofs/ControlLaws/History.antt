@@ -1,6 +1,6 @@
 -- "The holder printed after any such sequence is the one that the history says: the last client whose 00 succeeded, if it has had no
 -- successful reset and no disconnect since, otherwise nobody."
-use Prim.Native.Nat.{ℕ}
+use Prim.Native.Nat.{ℕ, _≤_}
 use mathlib.Core.Path.{_≡_, refl, sym, ap, _∙_}
 use mathlib.Core.Bool.{Bool, true, false, cond, _&&_}
 use mathlib.Core.List.{List, [], _∷_}
@@ -13,12 +13,9 @@ use Rattle.service.specs.declared.control.machine.Machine.{Machine}
 use Rattle.service.specs.declared.control.machine.Setup.{Setup}
 use Rattle.service.specs.declared.control.machine.Who.{Who}
 use Rattle.service.specs.declared.control.machine.Who.the-variants.{Nobody, Client}
-use Rattle.service.specs.declared.control.op_codes.OpCode.{OpCode}
 use Rattle.service.specs.declared.control.op_codes.Act.{Act}
 use Rattle.service.specs.declared.control.op_codes.Act.the-variants.{TakesControl, Resets, Starts, Halts, Stores}
-use Rattle.service.specs.declared.control.op_codes.Lookup.the-variants.{Known}
 use Rattle.service.specs.declared.control.judging.WriteResult.the-variants.{Success}
-use Rattle.service.specs.Control.OpCodes.{op-code}
 use Rattle.service.specs.Control.Machine.{without, held-by}
 use Rattle.service.specs.Control.Judging.{result-number, controls}
 use Rattle.service.specs.Control.Effects.{response-octets, done}
@@ -76,16 +73,16 @@ module _ (m : Machine) (c o : ℕ) (p said : List ℕ) where
   abbrev success-event : Event
   success-event = event (write c (o ∷ p)) (sent (response-octets o Success) said)
 
-  unmoved : (eqb o 0x00 ≡ false) × (eqb o 0x01 ≡ false) → m .holder ≡ next success-event (m .holder)
-  unmoved e = stays success-event (m .holder) (e .0) (λ d. rw (e .1))
+  unmoved : 2 ≤ o → m .holder ≡ next success-event (m .holder)
+  unmoved h = stays success-event (m .holder) (eqb-false (λ (e : o ≡ 0). omega arith)) (λ d. rw (eqb-false (λ (e : o ≡ 1). omega arith)))
 
   next-done : (a : Act) → Number o a → controls (m .holder) c a ≡ true → done m c a p .holder ≡ next success-event (m .holder)
   unfolding next
   next-done TakesControl n h = rw n
   next-done Resets n h = rw (n, is-client (m .holder) c h, eqb-same c)
-  next-done Starts n h = unmoved (eqb-false (λ (e : o ≡ 0). omega arith), eqb-false (λ (e : o ≡ 1). omega arith))
-  next-done Halts n h = unmoved (eqb-false (λ (e : o ≡ 0). omega arith), eqb-false (λ (e : o ≡ 1). omega arith))
-  next-done (Stores at) n h = unmoved (eqb-false (λ (e : o ≡ 0). omega arith), eqb-false (λ (e : o ≡ 1). omega arith))
+  next-done Starts n h = unmoved n
+  next-done Halts n h = unmoved n
+  next-done (Stores at) n h = unmoved n
 
 next-gone : (c : ℕ) (w : Who) → without w c ≡ next (event (disconnect c) (sent [] [])) w
 unfolding next
@@ -95,7 +92,8 @@ next-gone c (Client d) = elim (tested (eqb d c)) [
   | failed e ↦ rw (e, eqb-false (λ (f : c ≡ d). eqb-ne d c e (sym f)))
 ]
 
-next-stepped : (k : Console) {q : Call} {x : Answer Sent × Console} → Stepped k q x → x .1 .machine .holder ≡ next (event q (x .0)) (k .machine .holder)
+next-stepped : (k : Console) {q : Call} {x : Answer Sent × Console} → Stepped k q x →
+    x .1 .machine .holder ≡ next (event q (x .0)) (k .machine .holder)
 next-stepped k {q} (refusal n l g) =
     stays (event q (refused n)) (k .machine .holder) refl (λ d. rw (eqb-false (λ (e : n ≡ 0). omega arith), and-no (is-disconnect q)))
 next-stepped k (connected c h e) = stays (event (connect c) (sent [] [])) (k .machine .holder) refl (λ d. refl)

@@ -88,7 +88,8 @@ module _ (k : Console) (l : Links k) (c : ℕ) (h : c ≤ 3) where
   links-gone : Links (record { machine = freed (k .machine) c; clients = set (k .clients) c absent; awaited = without (k .awaited) c })
   links-gone =
       let p : (w : Who) → Present (k .clients) w → Present (set (k .clients) c absent) (without w c) = others (k .clients) (l .four) c h absent in
-      links-with absent (λ t. t) (freed (k .machine) c) (without (k .awaited) c) (p (k .awaited) (l .awaited-connected)) (p (k .machine .holder) (l .holder-connected))
+      links-with absent (λ t. t) (freed (k .machine) c) (without (k .awaited) c)
+      (p (k .awaited) (l .awaited-connected)) (p (k .machine .holder) (l .holder-connected))
 
 links-who : (k : Console) → Links k → (m : Machine) (w : Who) → Present (k .clients) w → Present (k .clients) (m .holder) →
     Links (record { machine = m; clients = k .clients; awaited = w })
@@ -96,7 +97,8 @@ links-who k l m w p q = record { four = l .four; indicating-connected = l .indic
 
 -- ---- settings
 
-module _ (k : Console) (s : Sound k) (c o : ℕ) (p : List ℕ) (x : OpCode) (e : op-code o ≡ Known x) (g : fit (k .machine .setup .ranges) x p ≡ true) where
+module _ (k : Console) (s : Sound k) (c o : ℕ) (p : List ℕ) (x : OpCode) (e : op-code o ≡ Known x)
+    (g : fit (k .machine .setup .ranges) x p ≡ true) where
   stored-right : (a : ℕ) → x .act ≡ Stores a → (i : ℕ) →
       Right (k .machine .setup .ranges) (op-code i) (setting (storing (k .machine) (placed (k .machine .settings) a p)) i)
   stored-right a f i =
@@ -126,7 +128,8 @@ sound-stepped k s (refusal n l g) = s
 sound-stepped k s (connected c h e) = record { links = links-joined k (s .links) c h false; room = s .room; right = s .right }
 sound-stepped k s (gone c h e) = record { links = links-gone k (s .links) c h; room = s .room; right = s .right }
 sound-stepped k s (indicated c on h e) = record { links = links-joined k (s .links) c h on; room = s .room; right = s .right }
-sound-stepped k s (confirmed c h e f) = record { links = links-who k (s .links) (k .machine) Nobody tt (s .links .holder-connected); room = s .room; right = s .right }
+sound-stepped k s (confirmed c h e f) =
+    record { links = links-who k (s .links) (k .machine) Nobody tt (s .links .holder-connected); room = s .room; right = s .right }
 sound-stepped k s (denied c o p h r n) =
     record { links = links-who k (s .links) (k .machine) (Client c) (h .joined) (s .links .holder-connected); room = s .room; right = s .right }
 sound-stepped k s (granted c o p h x e g) = sound-done k s c o p x e (g .suits) (h .joined) (x .act) refl

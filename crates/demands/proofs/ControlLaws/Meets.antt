@@ -99,7 +99,8 @@ module _ {S : Type 0} (p : Point S) where
   -- a control point that never answers 01
   pub not-never-01 : ((x : S) (c o : ℕ) (s : List ℕ) → result-in (p .calling x (write c (o ∷ s)) .0) ≡ result-number Success → ⊥) → Answers p → ⊥
   not-never-01 h a =
-      let g : (x : S) × (p .opening plain ≡ given x) × ((qs : List Call) → run p x [] qs .0 ≡ run service closed [] qs .0) = a .answers-alike plain closed opens-so in
+      let g : (x : S) × (p .opening plain ≡ given x) × ((qs : List Call) → run p x [] qs .0 ≡ run service closed [] qs .0) =
+      a .answers-alike plain closed opens-so in
       h (ready (g .0)) 0 0x00 [] (ap result-in (sym (latest-run (g .0)) ∙ ap latest (g .2 first-calls) ∙ first-granted))
 
   -- one that answers 02 to everything, whatever else it does

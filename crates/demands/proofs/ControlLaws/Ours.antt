@@ -50,7 +50,8 @@ pub data Did (k : Console) : Call → Answer Sent × Console → Type 0 where
   did-connect : (c : ℕ) (y : Reply) (e : Console × (ℕ × Unit {0})) → connect-code.Post tt (k, (c, tt)) y e → Did k (connect c) (meant y)
   did-disconnect : (c : ℕ) (y : Reply) (e : Console × (ℕ × Unit {0})) → disconnect-code.Post tt (k, (c, tt)) y e → Did k (disconnect c) (meant y)
   did-confirm : (c : ℕ) (y : Reply) (e : Console × (ℕ × Unit {0})) → confirm-code.Post tt (k, (c, tt)) y e → Did k (confirm c) (meant y)
-  did-indicate : (c : ℕ) (on : Bool) (y : Reply) (e : Console × (ℕ × (Bool × Unit {0}))) → indicate-code.Post tt (k, (c, (on, tt))) y e → Did k (indicate c on) (meant y)
+  did-indicate : (c : ℕ) (on : Bool) (y : Reply) (e : Console × (ℕ × (Bool × Unit {0}))) →
+      indicate-code.Post tt (k, (c, (on, tt))) y e → Did k (indicate c on) (meant y)
   did-write : (κ : Lft) (c : ℕ) (s : RefT (List ℕ)) (y : Reply) (e : Console × (ℕ × (RefT (List ℕ) × Unit {0}))) →
       write-code.Post (κ, tt) (k, (c, (s, tt))) y e → Did k (write c (now s)) (meant y)
 

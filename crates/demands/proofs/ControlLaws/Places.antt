@@ -40,7 +40,8 @@ after (x ∷ p) l i a h = after p (set l i x) (suc i) a (omega arith) ∙ drop-s
 
 over : (p l : List ℕ) (a n : ℕ) → length p ≡ n → a + n ≤ length l → take n (drop a (placed l a p)) ≡ p
 over p l a n e h =
-    rw (sets-eq p l a (omega arith), append-assoc (take a l) p (drop (a + length p) l), drop-at (take a l) (p ++ drop (a + length p) l) a (length-take-le a l (omega arith)), take-at p (drop (a + length p) l) n e)
+    let rest : List ℕ = drop (a + length p) l in
+    rw (sets-eq p l a (omega arith), append-assoc (take a l) p rest, drop-at (take a l) (p ++ rest) a (length-take-le a l (omega arith)), take-at p rest n e)
 
 -- ---- no two settings overlap: a test that computes over the table
 
@@ -70,7 +71,8 @@ or-cases false y e = inr e
 
 -- ---- a setting that is stored
 
-module _ (m : Machine) (o : ℕ) (x : OpCode) (a : ℕ) (p : List ℕ) (e : op-code o ≡ Known x) (f : x .act ≡ Stores a) (n : length p ≡ size (x .parameter)) where
+module _ (m : Machine) (o : ℕ) (x : OpCode) (a : ℕ) (p : List ℕ) (e : op-code o ≡ Known x) (f : x .act ≡ Stores a)
+    (n : length p ≡ size (x .parameter)) where
   apart-two : (i : ℕ) (y : OpCode) (b : ℕ) → op-code i ≡ Known y → y .act ≡ Stores b → (i ≡ o → ⊥) →
       (a + size (x .parameter) ≤ b) ⊎ (b + size (y .parameter) ≤ a)
   apart-two i y b g j d =

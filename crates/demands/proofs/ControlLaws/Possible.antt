@@ -6,7 +6,7 @@ use native.Mathlib.Omega.{arith}
 use lib.Dec.{eqb, lit≤}
 use lib.ListN.{length, getD, List·getD-map}
 use denote.Ref.{RefT}
-use Rattle.record.specs.Answer.{Answer, refused}
+use Rattle.record.specs.Answer.{Answer}
 use Rattle.record.specs.declared.feature.Feature.{Feature}
 use Rattle.record.specs.declared.refusal.Refusal.{Refusal}
 use Rattle.record.specs.declared.refusal.Refusal.the-variants.{ClientAboveThree, UnknownKind, PayloadOutOfRange, NotWellFormed, OutputTooShort, NoSuchPart, UnusableSetup, ConnectionMismatch, EmptyWrite, IndicationsOff, ResponseAwaited, NothingDue, NotEightOctets}

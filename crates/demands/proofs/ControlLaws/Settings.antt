@@ -39,7 +39,8 @@ next o e before = cond (succeeded 0x01 e) (zero-setting (op-code o)) (cond (succ
 
 -- ---- one call
 
-module _ (m : Machine) (w : length (m .settings) ≡ 49) (c i : ℕ) (y : OpCode) (e : op-code i ≡ Known y) (p : List ℕ) (n : length p ≡ size (y .parameter)) where
+module _ (m : Machine) (w : length (m .settings) ≡ 49) (c i : ℕ) (y : OpCode) (e : op-code i ≡ Known y) (p : List ℕ)
+    (n : length p ≡ size (y .parameter)) where
   module _ (o : ℕ) (t : stores (op-code o) ≡ true) where
     -- an op code that stores nothing is not the one whose setting it is
     elsewhere : keeps (y .act) ≡ false → eqb i o ≡ false
@@ -74,7 +75,8 @@ next-stepped k s o t (granted c i p h y e g) =
 
 -- ---- sequences of calls
 
-follows : (o : ℕ) → stores (op-code o) ≡ true → (k : Console) → Sound k → (past : List Event) (qs : List Call) → setting (k .machine) o ≡ setting-by o past →
+follows : (o : ℕ) → stores (op-code o) ≡ true → (k : Console) → Sound k → (past : List Event) (qs : List Call) →
+    setting (k .machine) o ≡ setting-by o past →
     setting (run service k past qs .1 .machine) o ≡ setting-by o (run service k past qs .0)
 unfolding run
 follows o t k s past [] f = f

@@ -16,7 +16,7 @@ use Rattle.service.specs.declared.control.judging.WriteResult.{WriteResult}
 use Rattle.service.specs.declared.control.judging.WriteResult.the-variants.{Success, NotSupported}
 use Rattle.service.specs.Control.OpCodes.{op-code}
 use Rattle.service.specs.Control.Machine.{is, someone, without, freed}
-use Rattle.service.specs.Control.Judging.{succeeds, judged}
+use Rattle.service.specs.Control.Judging.{succeeds}
 use Rattle.service.specs.Control.Effects.{response-octets, status-octets, done}
 use Rattle.service.specs.Control.Console.{absent, is-connected, is-indicating, with-client, awaiting}
 use Rattle.service.specs.Control.Replies.{Sent, refuses, accepts, responds}

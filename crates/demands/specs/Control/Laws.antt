@@ -66,6 +66,7 @@ pub data Right (ranges : Ranges) : Lookup → List ℕ → Type 0 where
   at-zero : {l : Lookup} {p : List ℕ} → p ≡ zero-setting l → Right ranges l p
   set-to : {x : OpCode} {p : List ℕ} → length p ≡ size (x .parameter) → allowed ranges (x .bound) p ≡ true → Right ranges (Known x) p
 
+-- what holds of every console to which calls have led: its clients, the room of its settings, and each setting
 pub record Sound (k : Console) : Type 0 where
   pub links : Links k
   pub room : length (k .machine .settings) ≡ 49
@@ -73,7 +74,7 @@ pub record Sound (k : Console) : Type 0 where
 
 -- ---- who calls, and what was granted
 
--- the client that makes a call
+-- who makes a call: "Calls: connect, disconnect, indications on and off, write, confirm."
 abbrev pub by : Call → Who
 by (connect c) = Client c
 by (disconnect c) = Client c
@@ -81,7 +82,7 @@ by (confirm c) = Client c
 by (indicate c on) = Client c
 by (write c s) = Client c
 
--- the octets after the op code
+-- the octets after the op code: "store the parameter octets"
 abbrev pub parameter : Call → List ℕ
 parameter (connect c) = []
 parameter (disconnect c) = []
@@ -100,6 +101,7 @@ result-in a = getD (response-of a) 2 0
 abbrev pub succeeded : ℕ → Event → Bool
 succeeded o e = eqb (result-in (e .answer)) (result-number Success) && eqb (op-in (e .answer)) o
 
+-- "Disconnect frees control held by that client"
 abbrev pub is-disconnect : Call → Bool
 is-disconnect (connect c) = false
 is-disconnect (disconnect c) = true
@@ -107,7 +109,7 @@ is-disconnect (confirm c) = false
 is-disconnect (indicate c on) = false
 is-disconnect (write c s) = false
 
--- a client's successful reset, or its disconnect: "01 zeroes every setting, stops and frees control", "Disconnect frees control held by that client"
+-- a client's successful reset, or its disconnect: "01 zeroes every setting, stops and frees control"
 abbrev pub ends : ℕ → Event → Bool
 ends c e = (succeeded 0x01 e || (is-disconnect (e .call) && eqb (refusal-of (e .answer)) 0)) && is (by (e .call)) c
 
