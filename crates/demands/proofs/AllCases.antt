@@ -11,9 +11,9 @@ use Rattle.record.specs.Groups.{has, named, size, groups-of, known, listed, fla
 use Rattle.record.specs.Octets.{spelled, number}
 use Rattle.record.specs.Split.{longest, cut, written, octets, sets-of, payload-known, split-wire, split-of}
 use Rattle.demands.specs.Cases.{parts, calls, Holds, cases, Every}
-use Rattle.console.specs.Control.Cases as Control
-use Rattle.console.specs.Control.Replies.{Reply}
-use Rattle.console.proofs.ControlLaws.Cases as AllControl
+use Rattle.demands.specs.Control.Cases as Control
+use Rattle.service.specs.Control.Replies.{Sent}
+use Rattle.demands.proofs.ControlLaws.Cases as AllControl
 
 -- a row of the table, by the sets of the parts: they are computed once
 row : (kind groups p direction : ℕ) (sets lengths : List ℕ) (flags : List (List ℕ)) → listed kind ≡ groups → sets-of kind groups p ≡ sets →
@@ -29,7 +29,7 @@ unfolding split-wire
 refused-12 p e r i lent k = rw (k, e)
 
 second-start-holds : Holds (calls Control.second-start)
-second-start-holds = ap (λ (l : List (Answer Reply)). getD l 0 (refused 0)) AllControl.cases-hold
+second-start-holds = ap (λ (l : List (Answer Sent)). getD l 0 (refused 0)) AllControl.cases-hold
 
 pub cases-hold : Every cases
 unfolding layout tables treadmill cross-trainer step-climber stair-climber rower indoor-bike has named size groups-of listed spelled number longest cut written

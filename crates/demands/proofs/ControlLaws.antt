@@ -1,5 +1,5 @@
--- What the proofs of the control point share, and its laws.
-pub mod Answers
+-- The laws of the control point over sequences of calls.
+pub mod Numbers
 pub mod Steps
 pub mod Places
 pub mod Kept
@@ -9,6 +9,5 @@ pub mod Settings
 pub mod Alive
 pub mod Cases
 pub mod Meets
-pub mod Once
 pub mod Ours
 pub mod Possible

@@ -13,4 +13,5 @@ pub mod Contracts
 pub mod Equal
 pub mod ComingBack
 pub mod DemandsOnce
+pub mod ControlLaws
 pub mod AllCases

@@ -10,7 +10,7 @@ use Rattle.record.specs.Groups.{known, listed, flags-octets}
 use Rattle.record.specs.Octets.{number, signed}
 use Rattle.record.specs.Answer.{refused}
 use Rattle.record.specs.Split.{sets-of, octets, split-of}
-use Rattle.console.specs.Control.Cases as Control
+use Rattle.demands.specs.Control.Cases as Control
 
 pub data Case : Type 0 where
   -- "All groups present": kind, its groups, payload and direction; the parts' lengths and flags
@@ -34,7 +34,7 @@ Holds (parts kind groups p direction lengths flags) =
 Holds (payload p n) = (r : Record) (i lent : ℕ) → known (r .kind) ≡ true → split-of r p i lent ≡ refused n
 Holds (s16 o z) = signed (number 2 o) ≡ z
 Holds (u24 o x) = number 3 o ≡ x
-Holds (calls c) = Control.replied Control.machine (c .calls) ≡ c .expected
+Holds (calls c) = Control.answer-to Control.console (c .calls) ≡ c .expected
 
 abbrev pub cases : List Case
 cases =

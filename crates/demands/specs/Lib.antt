@@ -1,3 +1,4 @@
 pub mod Behaviour
 pub mod Demands
+pub mod Control
 pub mod Cases

@@ -1,175 +1,139 @@
 -- "The holder printed after any such sequence is the one that the history says: the last client whose 00 succeeded, if it has had no
 -- successful reset and no disconnect since, otherwise nobody."
-use Prim.Native.Nat.{ℕ}
+use Prim.Native.Nat.{ℕ, _≤_}
 use mathlib.Core.Path.{_≡_, refl, sym, ap, _∙_}
-use mathlib.Core.Bool.{Bool, true, false, cond, _&&_, _||_, true≢false}
-use mathlib.Core.List.{List, [], _∷_, _++_}
+use mathlib.Core.Bool.{Bool, true, false, cond, _&&_}
+use mathlib.Core.List.{List, [], _∷_}
 use native.Mathlib.Omega.{arith}
 use lib.Dec.{eqb}
-use lib.ListN.{getD}
-use Rattle.record.specs.declared.feature.Feature.{Feature}
 use Rattle.record.specs.Answer.{Answer, refused, given}
-use Rattle.codes.specs.declared.ranges.Ranges.{Ranges}
-use Rattle.machine.specs.declared.machine.Machine.{Machine}
-use Rattle.machine.specs.declared.machine.Who.{Who}
-use Rattle.machine.specs.declared.machine.Who.the-variants.{Nobody, Client}
-use Rattle.codes.specs.declared.op_codes.Act.{Act}
-use Rattle.codes.specs.declared.op_codes.Act.the-variants.{TakesControl, Resets, Starts, Halts, Stores, Nothing}
-use Rattle.codes.specs.OpCodes.{OpCode, row}
-use Rattle.machine.specs.Machine.{without, fresh, awaiting, held-by}
-use Rattle.machine.specs.Judging.{controls}
-use Rattle.machine.specs.Effects.{done}
-use Rattle.console.specs.Control.Replies.{Reply, reply, response-of}
-use Rattle.console.specs.Control.Calls.{opened, writes}
-use Rattle.console.specs.Control.Point.{Call, connect, disconnect, confirm, indicate, write, service, Event, step, run}
-use Rattle.console.specs.Control.Laws.{caller, succeeded, is-disconnect, ends, any, holder-by}
-use Rattle.record.proofs.Tests.{passed, failed, tested, eqb-eq, eqb-false, eqb-same}
-use Rattle.console.proofs.ControlLaws.Steps.{Granted, Stepped, refusal, connected, gone, indicated, confirmed, denied, granted, steps}
-use Rattle.codes.proofs.Rule.{row-rule, row-op}
-use Rattle.console.proofs.ControlLaws.Kept.{opened-fresh}
-use Rattle.console.proofs.ControlLaws.Changes.{is-client}
+use Rattle.record.proofs.Tests.{passed, failed, tested, eqb-eq, eqb-ne, eqb-false, eqb-same}
+use Rattle.service.specs.declared.control.Console.{Console}
+use Rattle.service.specs.declared.control.machine.Machine.{Machine}
+use Rattle.service.specs.declared.control.machine.Setup.{Setup}
+use Rattle.service.specs.declared.control.machine.Who.{Who}
+use Rattle.service.specs.declared.control.machine.Who.the-variants.{Nobody, Client}
+use Rattle.service.specs.declared.control.op_codes.Act.{Act}
+use Rattle.service.specs.declared.control.op_codes.Act.the-variants.{TakesControl, Resets, Starts, Halts, Stores}
+use Rattle.service.specs.declared.control.judging.WriteResult.the-variants.{Success}
+use Rattle.service.specs.Control.Machine.{without, held-by}
+use Rattle.service.specs.Control.Judging.{result-number, controls}
+use Rattle.service.specs.Control.Effects.{response-octets, done}
+use Rattle.service.specs.Control.Console.{first}
+use Rattle.service.specs.Control.Replies.{Sent, sent}
+use Rattle.service.specs.Control.Calls.{Opening, opened, writes}
+use Rattle.demands.specs.Control.Point.{Call, connect, disconnect, confirm, indicate, write, service, Event, event, step, run}
+use Rattle.demands.specs.Control.Laws.{by, result-in, succeeded, is-disconnect, ends, unless-ended, holder-by}
+use Rattle.demands.proofs.ControlLaws.Numbers.{Number, number-so, not-01}
+use Rattle.demands.proofs.ControlLaws.Steps.{responding, Stepped, refusal, connected, gone, indicated, confirmed, denied, granted, steps}
+use Rattle.demands.proofs.ControlLaws.Kept.{opened-first}
+use Rattle.demands.proofs.ControlLaws.Changes.{is-client}
 
 -- ---- the holder after one more event, and after all
 
--- freed by an event; by one of several
-freed : Event → Who → Who
-freed e Nobody = Nobody
-freed e (Client c) = cond (ends c e) Nobody (Client c)
-
-freed-since : List Event → Who → Who
-freed-since es Nobody = Nobody
-freed-since es (Client c) = cond (any (ends c) es) Nobody (Client c)
-
 next : Event → Who → Who
-next e w = cond (succeeded 0 e) (Client (caller (e .call))) (freed e w)
+next e w = cond (succeeded 0x00 e) (by (e .call)) (unless-ended (e ∷ []) w)
 
 recent : List Event → Who
 recent [] = Nobody
 recent (e ∷ past) = next e (recent past)
 
-freed-twice : (e : Event) (es : List Event) (w : Who) → freed-since (e ∷ es) w ≡ freed-since es (freed e w)
-unfolding freed freed-since
-freed-twice e es Nobody = refl
-freed-twice e es (Client c) = elim (tested (ends c e)) [
+ended-twice : (e : Event) (es : List Event) (w : Who) → unless-ended (e ∷ es) w ≡ unless-ended es (unless-ended (e ∷ []) w)
+ended-twice e es Nobody = refl
+ended-twice e es (Client c) = elim (tested (ends c e)) [
   | passed h ↦ rw h
   | failed h ↦ rw h
 ]
 
-by-recent : (past since : List Event) → holder-by past since ≡ freed-since since (recent past)
+by-recent : (past since : List Event) → holder-by past since ≡ unless-ended since (recent past)
 unfolding holder-by recent next
-by-recent [] since = unfold freed-since in refl
-by-recent (e ∷ past) since = elim (tested (succeeded 0 e)) [
-  | passed h ↦ rw h (unfold freed-since in refl)
-  | failed h ↦ rw h (by-recent past (e ∷ since) ∙ freed-twice e since (recent past))
+by-recent [] since = refl
+by-recent (e ∷ past) since = elim (tested (succeeded 0x00 e)) [
+  | passed h ↦ rw h
+  | failed h ↦ rw h (by-recent past (e ∷ since) ∙ ended-twice e since (recent past))
 ]
 
-freed-none : (w : Who) → freed-since [] w ≡ w
-unfolding freed-since
-freed-none Nobody = refl
-freed-none (Client c) = refl
+none-ended : (w : Who) → unless-ended [] w ≡ w
+none-ended Nobody = refl
+none-ended (Client c) = refl
 
 -- ---- one call
 
-unfreed : (e : Event) (w : Who) → succeeded 0 e ≡ false → ((c : ℕ) → ends c e ≡ false) → w ≡ next e w
-unfolding next freed
-unfreed e Nobody s h = rw s
-unfreed e (Client c) s h = rw (s, h c)
+stays : (e : Event) (w : Who) → succeeded 0x00 e ≡ false → ((c : ℕ) → ends c e ≡ false) → w ≡ next e w
+unfolding next
+stays e Nobody s h = rw s
+stays e (Client c) s h = rw (s, h c)
 
 and-no : (x : Bool) → (x && false) ≡ false
 and-no true = refl
 and-no false = refl
 
--- the op codes that have to do with control: 00 takes it, 01 frees it, and no other does either
-other : Act → Bool
-other TakesControl = false
-other Resets = false
-other Starts = true
-other Halts = true
-other (Stores at) = true
-other Nothing = true
+-- a write that succeeds
+module _ (m : Machine) (c o : ℕ) (p said : List ℕ) where
+  abbrev success-event : Event
+  success-event = event (write c (o ∷ p)) (sent (response-octets o Success) said)
 
-plain : OpCode → Bool
-plain r = eqb (r .op) 0 || (eqb (r .op) 1 || other (r .act))
+  unmoved : 2 ≤ o → m .holder ≡ next success-event (m .holder)
+  unmoved h = stays success-event (m .holder) (eqb-false (λ (e : o ≡ 0). omega arith)) (λ d. rw (eqb-false (λ (e : o ≡ 1). omega arith)))
 
-row-plain : (o : ℕ) → eqb o 0 ≡ false → eqb o 1 ≡ false → other (row o .act) ≡ true
-unfolding plain other
-row-plain o e f =
-    let h : (eqb (row o .op) 0 || (eqb (row o .op) 1 || other (row o .act))) ≡ true = row-rule plain o (rw (e, f)) refl in
-    rw (row-op o, e, f) at h
+  next-done : (a : Act) → Number o a → controls (m .holder) c a ≡ true → done m c a p .holder ≡ next success-event (m .holder)
+  unfolding next
+  next-done TakesControl n h = rw n
+  next-done Resets n h = rw (n, is-client (m .holder) c h, eqb-same c)
+  next-done Starts n h = unmoved n
+  next-done Halts n h = unmoved n
+  next-done (Stores at) n h = unmoved n
 
-module _ (m : Machine) (c o : ℕ) (p : List ℕ) where
-  same-holder : (a : Act) → other a ≡ true → done (awaiting m (Client c)) c a p .holder ≡ m .holder
-  unfolding other
-  same-holder TakesControl e = absurd (true≢false (sym e))
-  same-holder Resets e = absurd (true≢false (sym e))
-  same-holder Starts e = refl
-  same-holder Halts e = refl
-  same-holder (Stores at) e = refl
-  same-holder Nothing e = refl
-
-  granted-event : Event
-  granted-event = record { call = write c (o ∷ p); answer = reply (0x80 ∷ o ∷ 1 ∷ []) (row o .status ++ p) }
-
-next-taken : (m : Machine) (c : ℕ) (p : List ℕ) → done (awaiting m (Client c)) c (row 0 .act) p .holder ≡ next (granted-event m c 0 p) (m .holder)
-unfolding row next granted-event
-next-taken m c p = refl
-
-next-reset : (m : Machine) (c : ℕ) (p : List ℕ) → controls (m .holder) c (row 1 .act) ≡ true →
-    done (awaiting m (Client c)) c (row 1 .act) p .holder ≡ next (granted-event m c 1 p) (m .holder)
-unfolding row next freed granted-event
-next-reset m c p h = rw (is-client (m .holder) c h, eqb-same c)
-
-next-granted : (m : Machine) (c o : ℕ) (p : List ℕ) → Granted m c o p →
-    done (awaiting m (Client c)) c (row o .act) p .holder ≡ next (granted-event m c o p) (m .holder)
-next-granted m c o p g = elim (tested (eqb o 0)) [
-  | passed e ↦ rw (eqb-eq o 0 e) (next-taken m c p)
-  | failed e ↦ elim (tested (eqb o 1)) [
-    | passed f ↦ let q : o ≡ 1 = eqb-eq o 1 f in rw q (next-reset m c p (rw q at (g .controlled)))
-    | failed f ↦
-        same-holder m c o p (row o .act) (row-plain o e f) ∙
-        unfreed (granted-event m c o p) (m .holder) (unfold granted-event in e) (λ d. unfold granted-event in rw f)
-  ]
+next-gone : (c : ℕ) (w : Who) → without w c ≡ next (event (disconnect c) (sent [] [])) w
+unfolding next
+next-gone c Nobody = refl
+next-gone c (Client d) = elim (tested (eqb d c)) [
+  | passed e ↦ rw (eqb-eq d c e, eqb-same c)
+  | failed e ↦ rw (e, eqb-false (λ (f : c ≡ d). eqb-ne d c e (sym f)))
 ]
 
-next-gone : (c : ℕ) (w : Who) → without w c ≡ next (record { call = disconnect c; answer = reply [] [] }) w
-unfolding next freed
-next-gone c Nobody = refl
-next-gone c (Client d) = refl
-
-next-stepped : (m : Machine) {k : Call} {x : Answer Reply × Machine} → Stepped m k x → x .1 .holder ≡ next (record { call = k; answer = x .0 }) (m .holder)
-next-stepped m {k} (refusal n l g) =
-    unfreed (record { call = k; answer = refused n }) (m .holder) refl (λ d. rw (eqb-false (λ (e : n ≡ 0). omega arith), and-no (is-disconnect k)))
-next-stepped m (connected c h e) = unfreed (record { call = connect c; answer = reply [] [] }) (m .holder) refl (λ d. refl)
-next-stepped m (gone c h e) = next-gone c (m .holder)
-next-stepped m (indicated c on h e) = unfreed (record { call = indicate c on; answer = reply [] [] }) (m .holder) refl (λ d. refl)
-next-stepped m (confirmed c h e f) = unfreed (record { call = confirm c; answer = reply [] [] }) (m .holder) refl (λ d. refl)
-next-stepped m (denied c o p h n l g) =
-    let z : eqb n 1 ≡ false = eqb-false (λ (e : n ≡ 1). omega arith) in
-    unfreed (record { call = write c (o ∷ p); answer = reply (0x80 ∷ o ∷ n ∷ []) [] }) (m .holder) (rw z) (λ d. rw z)
-next-stepped m (granted c o p h g) = unfold granted-event in next-granted m c o p g
+next-stepped : (k : Console) {q : Call} {x : Answer Sent × Console} → Stepped k q x →
+    x .1 .machine .holder ≡ next (event q (x .0)) (k .machine .holder)
+next-stepped k {q} (refusal n l g) =
+    stays (event q (refused n)) (k .machine .holder) refl (λ d. rw (eqb-false (λ (e : n ≡ 0). omega arith), and-no (is-disconnect q)))
+next-stepped k (connected c h e) = stays (event (connect c) (sent [] [])) (k .machine .holder) refl (λ d. refl)
+next-stepped k (gone c h e) = next-gone c (k .machine .holder)
+next-stepped k (indicated c on h e) = stays (event (indicate c on) (sent [] [])) (k .machine .holder) refl (λ d. refl)
+next-stepped k (confirmed c h e f) = stays (event (confirm c) (sent [] [])) (k .machine .holder) refl (λ d. refl)
+next-stepped k (denied c o p h r e) =
+    stays (event (write c (o ∷ p)) (sent (response-octets o r) [])) (k .machine .holder) (rw (not-01 r e)) (λ d. rw (not-01 r e))
+next-stepped k (granted c o p h x e g) = next-done (k .machine) c o p _ (x .act) (number-so o x e) (g .controlled)
 
 -- ---- sequences of calls
 
-follows : (m : Machine) (past : List Event) (ks : List Call) → m .holder ≡ recent past → run service m past ks .1 .holder ≡ recent (run service m past ks .0)
+follows : (k : Console) (past : List Event) (qs : List Call) → k .machine .holder ≡ recent past →
+    run service k past qs .1 .machine .holder ≡ recent (run service k past qs .0)
 unfolding run
-follows m past [] e = e
-follows m past (k ∷ ks) e =
-    follows (step service m k .1) (record { call = k; answer = step service m k .0 } ∷ past) ks
-    (next-stepped m (steps m k) ∙ (unfold recent in ap (next (record { call = k; answer = step service m k .0 })) e))
+follows k past [] e = e
+follows k past (q ∷ qs) e =
+    follows (step k q .1) (event q (step k q .0) ∷ past) qs (next-stepped k (steps k q) ∙ (unfold recent in ap (next (event q (step k q .0))) e))
 
-pub holder-by-history : (s : List ℕ) (r : Ranges) (m : Machine) → opened s r ≡ given m → (ks : List Call) →
-    run service m [] ks .1 .holder ≡ holder-by (run service m [] ks .0) []
+pub holder-by-history : (o : Opening) (k : Console) → opened o ≡ given k → (qs : List Call) →
+    run service k [] qs .1 .machine .holder ≡ holder-by (run service k [] qs .0) []
 unfolding recent
-holder-by-history s r m e ks =
-    let f : (t : Feature) × (m ≡ fresh t r) = opened-fresh s r m e in
-    follows m [] ks (rw (f .1)) ∙ sym (by-recent (run service m [] ks .0) [] ∙ freed-none (recent (run service m [] ks .0)))
+holder-by-history o k e qs =
+    let f : (s : Setup) × (k ≡ first s) = opened-first o k e in
+    follows k [] qs (rw (f .1)) ∙ sym (by-recent (run service k [] qs .0) [] ∙ none-ended (recent (run service k [] qs .0)))
 
 -- ---- what a 00 that succeeds changes: who is awaited and who holds control
-pub taken : (m : Machine) (c : ℕ) (p : List ℕ) → getD (response-of (writes m c (0 ∷ p) .0)) 2 0 ≡ 1 →
-    writes m c (0 ∷ p) .1 ≡ held-by (awaiting m (Client c)) (Client c)
-taken m c p h = from (steps m (write c (0 ∷ p))) h
+pub taken : (k : Console) (c : ℕ) (p : List ℕ) → result-in (writes k c (0x00 ∷ p) .0) ≡ result-number Success →
+    writes k c (0x00 ∷ p) .1 ≡ responding k (held-by (k .machine) (Client c)) c
+taken k c p h = from (steps k (write c (0x00 ∷ p))) h
   where
-    from : {x : Answer Reply × Machine} → Stepped m (write c (0 ∷ p)) x → getD (response-of (x .0)) 2 0 ≡ 1 → x .1 ≡ held-by (awaiting m (Client c)) (Client c)
+    from-act : (a : Act) → Number 0x00 a → responding k (done (k .machine) c a p) c ≡ responding k (held-by (k .machine) (Client c)) c
+    from-act TakesControl n = refl
+    from-act Resets n = absurd (omega arith)
+    from-act Starts n = absurd (omega arith)
+    from-act Halts n = absurd (omega arith)
+    from-act (Stores at) n = absurd (omega arith)
+
+    from : {x : Answer Sent × Console} → Stepped k (write c (0x00 ∷ p)) x → result-in (x .0) ≡ result-number Success →
+        x .1 ≡ responding k (held-by (k .machine) (Client c)) c
     from (refusal n l g) e = absurd (omega arith)
-    from (denied c o p i n l g) e = absurd (omega arith)
-    from (granted c o p i g) e = unfold row in refl
+    from (denied c o p i r f) e = absurd (eqb-ne (result-number r) 1 (not-01 r f) e)
+    from (granted c o p i x f g) e = from-act (x .act) (number-so 0x00 x f)

@@ -1,172 +1,155 @@
--- Every call keeps a machine sound, so that each sequence of calls from opening leaves it sound.
-use Prim.Native.Nat.{ℕ, _≤_, _<_}
-use mathlib.Core.Path.{_≡_, refl, sym, _∙_}
-use mathlib.Core.Bool.{Bool, true, false, _&&_, true≢false}
+-- Every call keeps a console sound, so that each sequence of calls from opening leaves it sound.
+use Prim.Native.Nat.{ℕ, zero, suc, _≤_}
+use mathlib.Core.Path.{_≡_, refl, sym, ap, _∙_}
+use mathlib.Core.Bool.{Bool, true, false}
 use mathlib.Core.List.{List, [], _∷_}
 use native.Mathlib.Omega.{arith}
 use lib.Dec.{eqb}
-use lib.ListN.{length, getD, set, length-set}
+use lib.ListN.{length, getD, set, replicate, length-set}
 use lib.Seq.{getD-set-same, getD-set-other, length-sets}
 use Rattle.record.specs.declared.feature.Feature.{Feature}
 use Rattle.record.specs.Feature.{feature-of}
 use Rattle.record.specs.Answer.{Answer, refused, given}
-use Rattle.record.specs.Octets.{number, placed}
-use Rattle.codes.specs.declared.ranges.Ranges.{Ranges}
-use Rattle.machine.specs.declared.machine.Machine.{Machine}
-use Rattle.machine.specs.declared.machine.Who.{Who}
-use Rattle.machine.specs.declared.machine.Who.the-variants.{Nobody, Client}
-use Rattle.codes.specs.declared.op_codes.Act.{Act}
-use Rattle.codes.specs.declared.op_codes.Act.the-variants.{TakesControl, Resets, Starts, Halts, Stores, Nothing}
-use Rattle.codes.specs.Ranges.{in-order, allowed}
-use Rattle.codes.specs.OpCodes.{row}
-use Rattle.codes.specs.Parameters.{size}
-use Rattle.machine.specs.Machine.{without, is-connected, fresh, awaiting, storing}
-use Rattle.machine.specs.Judging.{known-halt, fit}
-use Rattle.machine.specs.Effects.{done, setting}
-use Rattle.console.specs.Control.Replies.{Reply}
-use Rattle.console.specs.Control.Calls.{open-with, opened}
-use Rattle.console.specs.Control.Point.{Call, service, Event, step, run}
-use Rattle.console.specs.Control.Laws.{Present, Links, Right, at-zero, set-to, Sound}
-use Rattle.record.proofs.Tests.{passed, failed, tested, eqb-eq, eqb-ne, and-l, and-r}
-use Rattle.machine.proofs.Fits.{length-fit}
-use Rattle.console.proofs.ControlLaws.Places.{stored-same, stored-other, zero-at}
-use Rattle.console.proofs.ControlLaws.Steps.{Stepped, refusal, connected, gone, indicated, confirmed, denied, granted, steps}
+use Rattle.record.specs.Octets.{placed}
+use Rattle.record.proofs.Tests.{passed, failed, tested, eqb-eq, eqb-ne}
+use Rattle.service.specs.declared.control.Client.{Client as Link}
+use Rattle.service.specs.declared.control.Console.{Console}
+use Rattle.service.specs.declared.control.machine.Machine.{Machine}
+use Rattle.service.specs.declared.control.machine.Setup.{Setup}
+use Rattle.service.specs.declared.control.machine.Who.{Who}
+use Rattle.service.specs.declared.control.machine.Who.the-variants.{Nobody, Client}
+use Rattle.service.specs.declared.control.op_codes.OpCode.{OpCode}
+use Rattle.service.specs.declared.control.op_codes.Act.{Act}
+use Rattle.service.specs.declared.control.op_codes.Act.the-variants.{TakesControl, Resets, Starts, Halts, Stores}
+use Rattle.service.specs.declared.control.op_codes.Lookup.the-variants.{Known}
+use Rattle.service.specs.Control.OpCodes.{op-code}
+use Rattle.service.specs.Control.Parameters.{size}
+use Rattle.service.specs.Control.Machine.{usable, without, freed, storing}
+use Rattle.service.specs.Control.Judging.{fit}
+use Rattle.service.specs.Control.Effects.{done, setting}
+use Rattle.service.specs.Control.Console.{absent, client-at, is-connected, with-client, first}
+use Rattle.service.specs.Control.Replies.{Sent}
+use Rattle.service.specs.Control.Calls.{Opening, open-with, opened}
+use Rattle.service.proofs.ControlLaws.Fits.{length-fit, allowed-fit}
+use Rattle.demands.specs.Control.Point.{Call, service, Event, event, step, run}
+use Rattle.demands.specs.Control.Laws.{Present, Links, Right, at-zero, set-to, Sound}
+use Rattle.demands.proofs.ControlLaws.Places.{stored-same, stored-other, zero-at}
+use Rattle.demands.proofs.ControlLaws.Steps.{responding, Stepped, refusal, connected, gone, indicated, confirmed, denied, granted, steps}
 
 -- ---- clients
 
--- a client is this one, or another
-still : (l : List Bool) (c d : ℕ) → c < length l → getD l d false ≡ true → getD (set l c true) d false ≡ true
-still l c d h e = elim (tested (eqb d c)) [
-  | passed f ↦ rw (eqb-eq d c f) (getD-set-same l c true false h)
-  | failed f ↦ getD-set-other l c d true false (eqb-ne d c f) ∙ e
-]
+-- another client in a client's place: what is there, and what is elsewhere
+module _ (l : List Link) (n : length l ≡ 4) (c : ℕ) (h : c ≤ 3) (x : Link) where
+  pub here : getD (set l c x) c absent ≡ x
+  here = getD-set-same l c x absent (omega arith)
 
-present-still : (l : List Bool) (c : ℕ) (w : Who) → c < length l → Present l w → Present (set l c true) w
-present-still l c Nobody h p = tt
-present-still l c (Client d) h p = still l c d h p
+  there : (d : ℕ) → eqb d c ≡ false → getD (set l c x) d absent ≡ getD l d absent
+  there d e = getD-set-other l c d x absent (eqb-ne d c e)
 
-present-without : (l : List Bool) (c : ℕ) (w : Who) → Present l w → Present (set l c false) (without w c)
-present-without l c Nobody p = tt
-present-without l c (Client d) p = elim (tested (eqb d c)) [
-  | passed e ↦ rw e tt
-  | failed e ↦ rw e (getD-set-other l c d false false (eqb-ne d c e) ∙ p)
-]
+  -- a client that is connected stays so, where that one is; or where it is another
+  still : x .connected ≡ true → (w : Who) → Present l w → Present (set l c x) w
+  still t Nobody p = tt
+  still t (Client d) p = elim (tested (eqb d c)) [
+    | passed f ↦ rw (eqb-eq d c f) (ap (λ (y : Link). y .connected) here ∙ t)
+    | failed f ↦ ap (λ (y : Link). y .connected) (there d f) ∙ p
+  ]
 
--- turned off, a client is not among those that are on
-off : (l : List Bool) (c d : ℕ) → c < length l → getD (set l c false) d false ≡ true → (d ≡ c → ⊥) × (getD l d false ≡ true)
-off l c d h e = elim (tested (eqb d c)) [
-  | passed f ↦ absurd (true≢false (sym e ∙ rw (eqb-eq d c f) (getD-set-same l c false false h)))
-  | failed f ↦ (eqb-ne d c f, sym (getD-set-other l c d false false (eqb-ne d c f)) ∙ e)
-]
+  others : (w : Who) → Present l w → Present (set l c x) (without w c)
+  others Nobody p = tt
+  others (Client d) p = elim (tested (eqb d c)) [
+    | passed f ↦ rw f tt
+    | failed f ↦ rw f (ap (λ (y : Link). y .connected) (there d f) ∙ p)
+  ]
 
-on-or-off : (l : List Bool) (c d : ℕ) (b : Bool) → (d ≡ c → ⊥) → getD (set l c b) d false ≡ true → getD l d false ≡ true
-on-or-off l c d b n e = sym (getD-set-other l c d b false n) ∙ e
-
-module _ (con ind : List Bool) (awaited holder : Who) (l : Links con ind awaited holder) (c : ℕ) (h : c ≤ 3) where
-  links-connected : Links (set con c true) (set ind c false) awaited holder
-  links-connected =
-      let k : c < length con = (let e : length con ≡ 4 = l .four in omega arith) in
-      let k′ : c < length ind = (let e : length ind ≡ 4 = l .four-too in omega arith) in
-      record {
-        four = length-set con c true ∙ l .four;
-        four-too = length-set ind c false ∙ l .four-too;
-        indicating-connected = λ d e. still con c d k (l .indicating-connected d (off ind c d k′ e .1));
-        awaited-connected = present-still con c awaited k (l .awaited-connected);
-        holder-connected = present-still con c holder k (l .holder-connected);
-      }
-
-  links-gone : Links (set con c false) (set ind c false) (without awaited c) (without holder c)
-  links-gone =
-      let k : c < length ind = (let e : length ind ≡ 4 = l .four-too in omega arith) in
-      record {
-        four = length-set con c false ∙ l .four;
-        four-too = length-set ind c false ∙ l .four-too;
-        indicating-connected = λ d e.
-            let x : (d ≡ c → ⊥) × (getD ind d false ≡ true) = off ind c d k e in
-            getD-set-other con c d false false (x .0) ∙ l .indicating-connected d (x .1);
-        awaited-connected = present-without con c awaited (l .awaited-connected);
-        holder-connected = present-without con c holder (l .holder-connected);
-      }
-
-  links-indicated : getD con c false ≡ true → (b : Bool) → Links con (set ind c b) awaited holder
-  links-indicated f b = record {
-    four = l .four;
-    four-too = length-set ind c b ∙ l .four-too;
+module _ (k : Console) (l : Links k) (c : ℕ) (h : c ≤ 3) where
+  links-with : (x : Link) → (x .indicating ≡ true → x .connected ≡ true) → (m : Machine) (w : Who) → Present (set (k .clients) c x) w →
+      Present (set (k .clients) c x) (m .holder) → Links (record { machine = m; clients = set (k .clients) c x; awaited = w })
+  links-with x t m w p q = record {
+    four = length-set (k .clients) c x ∙ l .four;
     indicating-connected = λ d e. elim (tested (eqb d c)) [
-      | passed g ↦ rw (eqb-eq d c g) f
-      | failed g ↦ l .indicating-connected d (on-or-off ind c d b (eqb-ne d c g) e)
+      | passed f ↦
+          let g : getD (set (k .clients) c x) d absent ≡ x = rw (eqb-eq d c f) (here (k .clients) (l .four) c h x) in
+          ap (λ (y : Link). y .connected) g ∙ t (sym (ap (λ (y : Link). y .indicating) g) ∙ e)
+      | failed f ↦
+          let g : getD (set (k .clients) c x) d absent ≡ client-at k d = there (k .clients) (l .four) c h x d f in
+          ap (λ (y : Link). y .connected) g ∙ l .indicating-connected d (sym (ap (λ (y : Link). y .indicating) g) ∙ e)
     ];
-    awaited-connected = l .awaited-connected;
-    holder-connected = l .holder-connected;
+    awaited-connected = p;
+    holder-connected = q;
   }
 
-links-who : {con ind : List Bool} {a h : Who} (a′ h′ : Who) → Present con a′ → Present con h′ → Links con ind a h → Links con ind a′ h′
-links-who a′ h′ p q l = record {
-  four = l .four;
-  four-too = l .four-too;
-  indicating-connected = l .indicating-connected;
-  awaited-connected = p;
-  holder-connected = q;
-}
+  -- a client is connected, with indications on or off
+  links-joined : (on : Bool) → Links (with-client k c (record { connected = true; indicating = on }))
+  links-joined on =
+      let x : Link = record { connected = true; indicating = on } in
+      let p : (w : Who) → Present (k .clients) w → Present (set (k .clients) c x) w = still (k .clients) (l .four) c h x refl in
+      links-with x (λ t. refl) (k .machine) (k .awaited) (p (k .awaited) (l .awaited-connected)) (p (k .machine .holder) (l .holder-connected))
+
+  links-gone : Links (record { machine = freed (k .machine) c; clients = set (k .clients) c absent; awaited = without (k .awaited) c })
+  links-gone =
+      let p : (w : Who) → Present (k .clients) w → Present (set (k .clients) c absent) (without w c) = others (k .clients) (l .four) c h absent in
+      links-with absent (λ t. t) (freed (k .machine) c) (without (k .awaited) c)
+      (p (k .awaited) (l .awaited-connected)) (p (k .machine .holder) (l .holder-connected))
+
+links-who : (k : Console) → Links k → (m : Machine) (w : Who) → Present (k .clients) w → Present (k .clients) (m .holder) →
+    Links (record { machine = m; clients = k .clients; awaited = w })
+links-who k l m w p q = record { four = l .four; indicating-connected = l .indicating-connected; awaited-connected = p; holder-connected = q }
 
 -- ---- settings
 
-module _ (m : Machine) (s : Sound m) (c o : ℕ) (p : List ℕ) (f : is-connected m c ≡ true) (g : fit (m .ranges) (row o) p ≡ true) where
-  in-range-fit : allowed (m .ranges) (row o .bound) p ≡ true
-  unfolding fit
-  in-range-fit =
-      let x : Bool = allowed (m .ranges) (row o .bound) p in
-      and-l x (known-halt (row o .act) (number 1 p)) (and-r (eqb (length p) (size (row o .parameter))) (x && known-halt (row o .act) (number 1 p)) g)
+module _ (k : Console) (s : Sound k) (c o : ℕ) (p : List ℕ) (x : OpCode) (e : op-code o ≡ Known x)
+    (g : fit (k .machine .setup .ranges) x p ≡ true) where
+  stored-right : (a : ℕ) → x .act ≡ Stores a → (i : ℕ) →
+      Right (k .machine .setup .ranges) (op-code i) (setting (storing (k .machine) (placed (k .machine .settings) a p)) i)
+  stored-right a f i =
+      let n : length p ≡ size (x .parameter) = length-fit (k .machine .setup .ranges) x p g in
+      elim (tested (eqb i o)) [
+        | passed t ↦ rw (eqb-eq i o t, stored-same (k .machine) o x a p e f n (s .room), e) (set-to n (allowed-fit (k .machine .setup .ranges) x p g))
+        | failed t ↦ rw (stored-other (k .machine) o x a p e f n i (eqb-ne i o t)) (s .right i)
+      ]
 
-  stored-right : (a : ℕ) → row o .act ≡ Stores a → (i : ℕ) → Right (m .ranges) i (setting (storing m (placed (m .settings) a p)) i)
-  stored-right a e i = elim (tested (eqb i o)) [
-    | passed t ↦
-        rw (eqb-eq i o t, stored-same m o a p e (length-fit (m .ranges) o p g) (s .room)) (set-to (length-fit (m .ranges) o p g) in-range-fit)
-    | failed t ↦ rw (stored-other m o a p e (length-fit (m .ranges) o p g) (s .room) i (eqb-ne i o t)) (s .right i)
-  ]
-
-  sound-done : (a : Act) → row o .act ≡ a → Sound (done (awaiting m (Client c)) c a p)
+  sound-done : is-connected k c ≡ true → (a : Act) → x .act ≡ a → Sound (responding k (done (k .machine) c a p) c)
   unfolding setting
-  sound-done TakesControl e = record { links = links-who (Client c) (Client c) f f (s .links); room = s .room; right = s .right }
-  sound-done Resets e = record { links = links-who (Client c) Nobody f tt (s .links); room = refl; right = λ i. at-zero (zero-at i) }
-  sound-done Starts e = record { links = links-who (Client c) (m .holder) f (s .links .holder-connected) (s .links); room = s .room; right = s .right }
-  sound-done Halts e = record { links = links-who (Client c) (m .holder) f (s .links .holder-connected) (s .links); room = s .room; right = s .right }
-  sound-done (Stores a) e = record {
-    links = links-who (Client c) (m .holder) f (s .links .holder-connected) (s .links);
-    room = length-sets (m .settings) a p ∙ s .room;
-    right = stored-right a e;
+  sound-done j TakesControl f = record { links = links-who k (s .links) _ (Client c) j j; room = s .room; right = s .right }
+  sound-done j Resets f = record { links = links-who k (s .links) _ (Client c) j tt; room = refl; right = λ i. at-zero (zero-at i) }
+  sound-done j Starts f = record { links = links-who k (s .links) _ (Client c) j (s .links .holder-connected); room = s .room; right = s .right }
+  sound-done j Halts f = record { links = links-who k (s .links) _ (Client c) j (s .links .holder-connected); room = s .room; right = s .right }
+  sound-done j (Stores a) f = record {
+    links = links-who k (s .links) _ (Client c) j (s .links .holder-connected);
+    room = length-sets (k .machine .settings) a p ∙ s .room;
+    right = stored-right a f;
   }
-  sound-done Nothing e = record { links = links-who (Client c) (m .holder) f (s .links .holder-connected) (s .links); room = s .room; right = s .right }
 
 -- ---- calls
 
-sound-stepped : (m : Machine) {k : Call} {x : Answer Reply × Machine} → Sound m → Stepped m k x → Sound (x .1)
+sound-stepped : (k : Console) {q : Call} {x : Answer Sent × Console} → Sound k → Stepped k q x → Sound (x .1)
 unfolding setting
-sound-stepped m s (refusal n l g) = s
-sound-stepped m s (connected c h e) =
-    record { links = links-connected (m .connected) (m .indicating) (m .awaited) (m .holder) (s .links) c h; room = s .room; right = s .right }
-sound-stepped m s (gone c h e) =
-    record { links = links-gone (m .connected) (m .indicating) (m .awaited) (m .holder) (s .links) c h; room = s .room; right = s .right }
-sound-stepped m s (indicated c on h e) =
-    record { links = links-indicated (m .connected) (m .indicating) (m .awaited) (m .holder) (s .links) c h e on; room = s .room; right = s .right }
-sound-stepped m s (confirmed c h e f) =
-    record { links = links-who Nobody (m .holder) tt (s .links .holder-connected) (s .links); room = s .room; right = s .right }
-sound-stepped m s (denied c o p h n l g) =
-    record { links = links-who (Client c) (m .holder) (h .joined) (s .links .holder-connected) (s .links); room = s .room; right = s .right }
-sound-stepped m s (granted c o p h g) = sound-done m s c o p (h .joined) (g .suits) (row o .act) refl
+sound-stepped k s (refusal n l g) = s
+sound-stepped k s (connected c h e) = record { links = links-joined k (s .links) c h false; room = s .room; right = s .right }
+sound-stepped k s (gone c h e) = record { links = links-gone k (s .links) c h; room = s .room; right = s .right }
+sound-stepped k s (indicated c on h e) = record { links = links-joined k (s .links) c h on; room = s .room; right = s .right }
+sound-stepped k s (confirmed c h e f) =
+    record { links = links-who k (s .links) (k .machine) Nobody tt (s .links .holder-connected); room = s .room; right = s .right }
+sound-stepped k s (denied c o p h r n) =
+    record { links = links-who k (s .links) (k .machine) (Client c) (h .joined) (s .links .holder-connected); room = s .room; right = s .right }
+sound-stepped k s (granted c o p h x e g) = sound-done k s c o p x e (g .suits) (h .joined) (x .act) refl
 
-pub sound-step : (m : Machine) (k : Call) → Sound m → Sound (step service m k .1)
-sound-step m k s = sound-stepped m s (steps m k)
+pub sound-step : (k : Console) (q : Call) → Sound k → Sound (step k q .1)
+sound-step k q s = sound-stepped k s (steps k q)
 
 -- ---- sequences of calls from opening
 
-pub sound-fresh : (t : Feature) (r : Ranges) → Sound (fresh t r)
+all-absent : (n c : ℕ) → getD (replicate n absent) c absent ≡ absent
+all-absent zero c = refl
+all-absent (suc n) zero = refl
+all-absent (suc n) (suc c) = all-absent n c
+
+pub sound-first : (s : Setup) → Sound (first s)
 unfolding setting
-sound-fresh t r = record {
+sound-first s = record {
   links = record {
     four = refl;
-    four-too = refl;
-    indicating-connected = λ c e. e;
+    indicating-connected = λ c e. ap (λ (x : Link). x .connected) (all-absent 4 c) ∙ sym (ap (λ (x : Link). x .indicating) (all-absent 4 c)) ∙ e;
     awaited-connected = tt;
     holder-connected = tt;
   };
@@ -175,25 +158,27 @@ sound-fresh t r = record {
 }
 
 -- what opening gives
-pub opened-fresh : (s : List ℕ) (r : Ranges) (m : Machine) → opened s r ≡ given m → (t : Feature) × (m ≡ fresh t r)
+pub opened-first : (o : Opening) (k : Console) → opened o ≡ given k → (s : Setup) × (k ≡ first s)
 unfolding opened
-opened-fresh s r m e = from (feature-of s) e
+opened-first o k e = from (feature-of (o .octets)) e
   where
-    from : (f : Answer Feature) → open-with f r ≡ given m → (t : Feature) × (m ≡ fresh t r)
+    from : (a : Answer Feature) → open-with a (o .ranges) ≡ given k → (s : Setup) × (k ≡ first s)
     from (refused n) e = absurd (let z : _≡_ {A = ℕ} 0 1 = cc in omega arith)
-    from (given f) e = elim (tested (in-order r)) [
-      | passed g ↦ (f, let h : given (fresh f r) ≡ given m = rw g at e in cc)
-      | failed g ↦ absurd (let h : _≡_ {A = Answer Machine} (refused 16) (given m) = rw g at e in let z : _≡_ {A = ℕ} 0 1 = cc in omega arith)
-    ]
+    from (given f) e =
+        let s : Setup = record { feature = f; ranges = o .ranges } in
+        elim (tested (usable s)) [
+          | passed g ↦ (s, let h : given (first s) ≡ given k = rw g at e in cc)
+          | failed g ↦ absurd (let h : _≡_ {A = Answer Console} (refused 16) (given k) = rw g at e in let z : _≡_ {A = ℕ} 0 1 = cc in omega arith)
+        ]
 
 -- what a call keeps, a sequence of calls keeps
-pub run-keeps : (P : Machine → Type 0) → ((m : Machine) (k : Call) → P m → P (step service m k .1)) →
-    (m : Machine) (past : List Event) (ks : List Call) → P m → P (run service m past ks .1)
+run-keeps : (P : Console → Type 0) → ((k : Console) (q : Call) → P k → P (step k q .1)) →
+    (k : Console) (past : List Event) (qs : List Call) → P k → P (run service k past qs .1)
 unfolding run
-run-keeps P h m past [] p = p
-run-keeps P h m past (k ∷ ks) p = run-keeps P h (step service m k .1) (record { call = k; answer = step service m k .0 } ∷ past) ks (h m k p)
+run-keeps P h k past [] p = p
+run-keeps P h k past (q ∷ qs) p = run-keeps P h (step k q .1) (event q (step k q .0) ∷ past) qs (h k q p)
 
-pub sound-after : (s : List ℕ) (r : Ranges) (m : Machine) → opened s r ≡ given m → (ks : List Call) → Sound (run service m [] ks .1)
-sound-after s r m e ks =
-    let f : (t : Feature) × (m ≡ fresh t r) = opened-fresh s r m e in
-    run-keeps Sound sound-step m [] ks (rw (f .1) (sound-fresh (f .0) r))
+pub sound-after : (o : Opening) (k : Console) → opened o ≡ given k → (qs : List Call) → Sound (run service k [] qs .1)
+sound-after o k e qs =
+    let f : (s : Setup) × (k ≡ first s) = opened-first o k e in
+    run-keeps Sound sound-step k [] qs (rw (f .1) (sound-first (f .0)))

@@ -1,139 +1,122 @@
--- The service answers as the service; whoever keeps a machine of its own that moves alike does too; and who never answers 01 does not.
+-- The service answers as the service; whoever keeps a console of its own that moves alike does too; and who never answers 01 does not.
 use Prim.Native.Nat.{ℕ}
 use mathlib.Core.Path.{_≡_, refl, sym, ap, ap₂, _∙_}
 use mathlib.Core.Bool.{true}
 use mathlib.Core.List.{List, [], _∷_}
 use native.Mathlib.Omega.{arith}
-use lib.IntN.{pos}
 use lib.ListN.{getD}
-use Rattle.record.specs.declared.feature.Feature.{Feature}
 use Rattle.record.specs.Answer.{Answer, refused, given}
-use Rattle.record.specs.Groups.{has}
 use Rattle.record.specs.Octets.{number}
-use Rattle.codes.specs.declared.ranges.Ranges.{Ranges}
-use Rattle.codes.specs.declared.ranges.SignedRange.{SignedRange}
-use Rattle.machine.specs.declared.machine.Machine.{Machine}
-use Rattle.codes.specs.OpCodes.{row}
-use Rattle.machine.specs.Machine.{fresh}
-use Rattle.machine.specs.Judging.{fit, result}
-use Rattle.console.specs.Control.Replies.{Reply, reply, response-of}
-use Rattle.console.specs.Control.Calls.{opened, connects, indicates, writes}
-use Rattle.console.specs.Control.Point.{Call, connect, indicate, write, Point, service, Event, step, run, Answers}
+use Rattle.service.specs.declared.control.Console.{Console}
+use Rattle.service.specs.declared.control.judging.WriteResult.the-variants.{Success, NotSupported}
+use Rattle.service.specs.Control.OpCodes.{op-code}
+use Rattle.service.specs.Control.Judging.{result-number, fit, judged}
+use Rattle.service.specs.Control.Effects.{response-octets, success-status}
+use Rattle.service.specs.Control.Console.{closed}
+use Rattle.service.specs.Control.Replies.{Sent, sent}
+use Rattle.service.specs.Control.Calls.{Opening, opened, connects, indicates, writes}
+use Rattle.demands.specs.Control.Point.{Call, connect, disconnect, confirm, indicate, write, Point, service, Event, event, latest, step, run, Answers}
+use Rattle.demands.specs.Control.Laws.{result-in}
 
--- ---- how to show it of code: its states are read as machines, and each call moves the machine that its state is read as
+-- ---- how to show it of code: its states are read as consoles, and each call moves the console that its state is read as
 
-abbrev pub read-opening : {S : Type 0} → (S → Machine) → Answer S → Answer Machine
+abbrev pub read-opening : {S : Type 0} → (S → Console) → Answer S → Answer Console
 read-opening f (refused n) = refused n
 read-opening f (given x) = given (f x)
 
 pub record Reading {S : Type 0} (p : Point S) : Type 0 where
-  pub read : S → Machine
-  pub opens : (s : List ℕ) (r : Ranges) → read-opening read (p .opening s r) ≡ opened s r
-  pub replies : (x : S) (k : Call) → step p x k .0 ≡ step service (read x) k .0
-  pub moves : (x : S) (k : Call) → read (step p x k .1) ≡ step service (read x) k .1
+  pub read : S → Console
+  pub opens : (o : Opening) → read-opening read (p .opening o) ≡ opened o
+  pub replies : (x : S) (q : Call) → p .calling x q .0 ≡ step (read x) q .0
+  pub moves : (x : S) (q : Call) → read (p .calling x q .1) ≡ step (read x) q .1
 
 module _ {S : Type 0} (p : Point S) (h : Reading p) where
-  alike : (ks : List Call) (x : S) (past : List Event) → run p x past ks .0 ≡ run service (h .read x) past ks .0
+  alike : (qs : List Call) (x : S) (past : List Event) → run p x past qs .0 ≡ run service (h .read x) past qs .0
   unfolding run
   alike [] x past = refl
-  alike (k ∷ ks) x past =
-      alike ks (step p x k .1) (record { call = k; answer = step p x k .0 } ∷ past) ∙
-      ap₂ (λ (m : Machine) (r : Answer Reply). run service m (record { call = k; answer = r } ∷ past) ks .0) (h .moves x k) (h .replies x k)
+  alike (q ∷ qs) x past =
+      alike qs (p .calling x q .1) (event q (p .calling x q .0) ∷ past) ∙
+      ap₂ (λ (k : Console) (a : Answer Sent). run service k (event q a ∷ past) qs .0) (h .moves x q) (h .replies x q)
 
   pub by-reading : Answers p
   by-reading = record {
-    refuses-alike = λ s r n e. shut (p .opening s r) n (h .opens s r ∙ e);
-    answers-alike = λ s r m e. wide (p .opening s r) m (h .opens s r ∙ e);
+    refuses-alike = λ o n e. shut (p .opening o) n (h .opens o ∙ e);
+    answers-alike = λ o k e. wide (p .opening o) k (h .opens o ∙ e);
   }
     where
-      shut : (o : Answer S) (n : ℕ) → read-opening (h .read) o ≡ refused n → o ≡ refused n
+      shut : (a : Answer S) (n : ℕ) → read-opening (h .read) a ≡ refused n → a ≡ refused n
       shut (refused i) n e = cc
       shut (given x) n e = absurd (let z : _≡_ {A = ℕ} 0 1 = cc in omega arith)
 
-      wide : (o : Answer S) (m : Machine) → read-opening (h .read) o ≡ given m →
-          (x : S) × (o ≡ given x) × ((ks : List Call) → run p x [] ks .0 ≡ run service m [] ks .0)
-      wide (refused i) m e = absurd (let z : _≡_ {A = ℕ} 0 1 = cc in omega arith)
-      wide (given x) m e = (x, refl, λ ks. let f : h .read x ≡ m = cc in alike ks x [] ∙ ap (λ (y : Machine). run service y [] ks .0) f)
+      wide : (a : Answer S) (k : Console) → read-opening (h .read) a ≡ given k →
+          (x : S) × (a ≡ given x) × ((qs : List Call) → run p x [] qs .0 ≡ run service k [] qs .0)
+      wide (refused i) k e = absurd (let z : _≡_ {A = ℕ} 0 1 = cc in omega arith)
+      wide (given x) k e = (x, refl, λ qs. let f : h .read x ≡ k = cc in alike qs x [] ∙ ap (λ (y : Console). run service y [] qs .0) f)
 
-pub read-same : (o : Answer Machine) → read-opening (λ x. x) o ≡ o
+pub read-same : (a : Answer Console) → read-opening (λ k. k) a ≡ a
 read-same (refused n) = refl
-read-same (given m) = refl
+read-same (given k) = refl
 
 pub service-answers : Answers service
-service-answers = by-reading service (record { read = λ m. m; opens = λ s r. read-same (opened s r); replies = λ m k. refl; moves = λ m k. refl })
+service-answers = by-reading service (record { read = λ k. k; opens = λ o. read-same (opened o); replies = λ k q. refl; moves = λ k q. refl })
 
 -- ---- no second control point answers otherwise
-module _ {S R : Type 0} (p : Point S) (q : Point R) (a : Answers p) (b : Answers q) where
-  pub no-other : (s : List ℕ) (r : Ranges) (m : Machine) → opened s r ≡ given m →
-      (x : S) × (y : R) × (p .opening s r ≡ given x) × (q .opening s r ≡ given y) × ((ks : List Call) → run p x [] ks .0 ≡ run q y [] ks .0)
-  no-other s r m e =
-      let x : (x : S) × (p .opening s r ≡ given x) × ((ks : List Call) → run p x [] ks .0 ≡ run service m [] ks .0) = a .answers-alike s r m e in
-      let y : (y : R) × (q .opening s r ≡ given y) × ((ks : List Call) → run q y [] ks .0 ≡ run service m [] ks .0) = b .answers-alike s r m e in
-      (x .0, y .0, x .1, y .1, λ ks. x .2 ks ∙ sym (y .2 ks))
+module _ {S R : Type 0} (p : Point S) (r : Point R) (a : Answers p) (b : Answers r) where
+  pub no-other : (o : Opening) (k : Console) → opened o ≡ given k →
+      (x : S) × (y : R) × (p .opening o ≡ given x) × (r .opening o ≡ given y) × ((qs : List Call) → run p x [] qs .0 ≡ run r y [] qs .0)
+  no-other o k e =
+      let x : (x : S) × (p .opening o ≡ given x) × ((qs : List Call) → run p x [] qs .0 ≡ run service k [] qs .0) = a .answers-alike o k e in
+      let y : (y : R) × (r .opening o ≡ given y) × ((qs : List Call) → run r y [] qs .0 ≡ run service k [] qs .0) = b .answers-alike o k e in
+      (x .0, y .0, x .1, y .1, λ qs. x .2 qs ∙ sym (y .2 qs))
 
 -- ---- wrong ones
 
-abbrev wide-ranges : Ranges
-wide-ranges =
-    let r : SignedRange = record { least = pos 0; greatest = pos 255 } in
-    record {
-      speed = record { least = 0; greatest = 255 };
-      inclination = r;
-      resistance = r;
-      power = r;
-      «heart_rate» = record { least = 0; greatest = 255 };
-    }
+-- a machine with no target setting, and every range at 0
+abbrev plain : Opening
+plain = record { octets = 0 ∷ 0 ∷ 0 ∷ 0 ∷ 0 ∷ 0 ∷ 0 ∷ 0 ∷ []; ranges = closed .machine .setup .ranges }
 
-abbrev no-targets : List ℕ
-no-targets = 0 ∷ 0 ∷ 0 ∷ 0 ∷ 0 ∷ 0 ∷ 0 ∷ 0 ∷ []
-
-abbrev latest : List Event → Answer Reply
-latest [] = reply [] []
-latest (e ∷ past) = e .answer
-
-abbrev no-feature : Feature
-no-feature = record { features = 0; targets = 0 }
-
-opens-so : opened no-targets wide-ranges ≡ given (fresh no-feature wide-ranges)
+opens-so : opened plain ≡ given closed
 unfolding opened number
 opens-so = refl
 
 -- a client's first 00 must be answered 01
-abbrev first : List Call
-first = connect 0 ∷ indicate 0 true ∷ write 0 (0 ∷ []) ∷ []
+abbrev first-calls : List Call
+first-calls = connect 0 ∷ indicate 0 true ∷ write 0 (0x00 ∷ []) ∷ []
 
-first-granted : latest (run service (fresh no-feature wide-ranges) [] first .0) ≡ reply (0x80 ∷ 0 ∷ 1 ∷ []) []
-unfolding connects indicates writes result row fit has run number
+first-granted : latest (run service closed [] first-calls .0) ≡ sent (response-octets 0x00 Success) (success-status (op-code 0x00) [])
+unfolding connects indicates writes judged op-code fit run number
 first-granted = refl
 
-latest-run : {S : Type 0} (p : Point S) (x : S) → latest (run p x [] first .0) ≡ p .writing (p .indicating (p .connecting x 0 .1) 0 true .1) 0 (0 ∷ []) .0
-unfolding run
-latest-run p x = refl
-
 module _ {S : Type 0} (p : Point S) where
+  -- the state that the first write finds
+  abbrev ready : S → S
+  ready x = p .calling (p .calling x (connect 0) .1) (indicate 0 true) .1
+
+  latest-run : (x : S) → latest (run p x [] first-calls .0) ≡ p .calling (ready x) (write 0 (0x00 ∷ [])) .0
+  unfolding run
+  latest-run x = refl
+
   -- a control point that never answers 01
-  pub not-never-01 : ((x : S) (c o : ℕ) (s : List ℕ) → getD (response-of (p .writing x c (o ∷ s) .0)) 2 0 ≡ 1 → ⊥) → Answers p → ⊥
+  pub not-never-01 : ((x : S) (c o : ℕ) (s : List ℕ) → result-in (p .calling x (write c (o ∷ s)) .0) ≡ result-number Success → ⊥) → Answers p → ⊥
   not-never-01 h a =
-      let g : (x : S) × (p .opening no-targets wide-ranges ≡ given x) × ((ks : List Call) → run p x [] ks .0 ≡ run service (fresh no-feature wide-ranges) [] ks .0) =
-      a .answers-alike no-targets wide-ranges (fresh no-feature wide-ranges) opens-so in
-      let e : p .writing (p .indicating (p .connecting (g .0) 0 .1) 0 true .1) 0 (0 ∷ []) .0 ≡ reply (0x80 ∷ 0 ∷ 1 ∷ []) [] =
-      sym (latest-run p (g .0)) ∙ ap latest (g .2 first) ∙ first-granted in
-      h (p .indicating (p .connecting (g .0) 0 .1) 0 true .1) 0 0 [] (ap (λ (r : Answer Reply). getD (response-of r) 2 0) e)
+      let g : (x : S) × (p .opening plain ≡ given x) × ((qs : List Call) → run p x [] qs .0 ≡ run service closed [] qs .0) =
+      a .answers-alike plain closed opens-so in
+      h (ready (g .0)) 0 0x00 [] (ap result-in (sym (latest-run (g .0)) ∙ ap latest (g .2 first-calls) ∙ first-granted))
 
   -- one that answers 02 to everything, whatever else it does
-  pub not-always-02 : ((x : S) (c o : ℕ) (s : List ℕ) → getD (response-of (p .writing x c (o ∷ s) .0)) 2 0 ≡ 2) → Answers p → ⊥
+  pub not-always-02 : ((x : S) (c o : ℕ) (s : List ℕ) → result-in (p .calling x (write c (o ∷ s)) .0) ≡ result-number NotSupported) → Answers p → ⊥
   not-always-02 h = not-never-01 (λ x c o s e. let z : _≡_ {A = ℕ} 2 1 = sym (h x c o s) ∙ e in omega arith)
 
 -- there is one
+abbrev says-02 : Call → Answer Sent
+says-02 (connect c) = sent [] []
+says-02 (disconnect c) = sent [] []
+says-02 (confirm c) = sent [] []
+says-02 (indicate c on) = sent [] []
+says-02 (write c s) = sent (response-octets (getD s 0 0) NotSupported) []
+
 abbrev pub only-02 : Point (Unit {0})
-only-02 = record {
-  opening = λ s r. given tt;
-  connecting = λ x c. (reply [] [], x);
-  disconnecting = λ x c. (reply [] [], x);
-  indicating = λ x c on. (reply [] [], x);
-  confirming = λ x c. (reply [] [], x);
-  writing = λ x c s. (reply (0x80 ∷ getD s 0 0 ∷ 0x02 ∷ []) [], x);
-}
+only-02 = record { opening = λ o. given tt; calling = λ x q. (says-02 q, x) }
 
 pub only-02-refuted : Answers only-02 → ⊥
 only-02-refuted = not-always-02 only-02 (λ x c o s. refl)

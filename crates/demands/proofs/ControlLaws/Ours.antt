@@ -2,120 +2,131 @@
 use Prim.Native.Nat.{ℕ, _≤_}
 use mathlib.Core.Path.{_≡_, refl, sym, ap, _∙_}
 use mathlib.Core.Logic.{_⊎_}
-use mathlib.Core.Bool.{Bool}
+use mathlib.Core.Bool.{Bool, true}
 use mathlib.Core.List.{List, [], _∷_}
-use lib.ListN.{getD}
 use base.Fml.{Lft}
 use denote.Ref.{RefT, now}
-use Rattle.record.specs.Answer.{Answer, given}
-use Rattle.codes.specs.declared.ranges.Ranges.{Ranges}
-use Rattle.machine.specs.declared.machine.Machine.{Machine}
-use Rattle.machine.specs.declared.machine.Who.the-variants.{Client}
-use Rattle.console.specs.declared.control.Opened.{Opened}
-use Rattle.console.specs.declared.control.Moved.{Moved}
-use Rattle.console.specs.declared.control.Written.{Written}
-use Rattle.codes.specs.declared.op_codes.Act.the-variants.{Stores}
-use Rattle.codes.specs.OpCodes.{row}
-use Rattle.console.specs.Control.Replies.{Reply, refusal-of, response-of, meant-opened, meant-moved, meant-written}
-use Rattle.machine.specs.Effects.{setting}
-use Rattle.console.specs.Control.Calls.{opened}
-use Rattle.console.specs.Control.Point.{Call, connect, disconnect, confirm, indicate, write, Point, service, Event, step, run, Answers}
-use Rattle.console.specs.Control.Laws.{Sound, holder-by, setting-by, Heard, Unchanged, Spared, caller}
-use Rattle.console.proofs.ControlLaws.Kept.{sound-step, sound-after}
-use Rattle.console.proofs.ControlLaws.Changes.{refusals, by-another}
-use Rattle.console.proofs.ControlLaws.History.{holder-by-history}
-use Rattle.console.proofs.ControlLaws.Settings.{setting-by-history, granted-to-holder}
-use Rattle.console.proofs.ControlLaws.Alive.{alive-after}
-use Rattle.console.proofs.ControlLaws.Meets.{by-reading, read-same}
-use Rattle.console.proofs.control.open.Reads as open-code
-use Rattle.console.proofs.control.connect.Reads as connect-code
-use Rattle.console.proofs.control.disconnect.Reads as disconnect-code
-use Rattle.console.proofs.control.indicate.Reads as indicate-code
-use Rattle.console.proofs.control.confirm.Reads as confirm-code
-use Rattle.console.proofs.control.write.Reads as write-code
+use Rattle.record.specs.Answer.{Answer, refused, given}
+use Rattle.service.specs.declared.control.Console.{Console}
+use Rattle.service.specs.declared.control.Reply.{Reply}
+use Rattle.service.specs.declared.control.ranges.Ranges.{Ranges}
+use Rattle.service.specs.declared.control.machine.Who.the-variants.{Client}
+use Rattle.service.specs.declared.control.judging.WriteResult.the-variants.{Success}
+use Rattle.service.specs.Control.OpCodes.{op-code}
+use Rattle.service.specs.Control.Judging.{result-number}
+use Rattle.service.specs.Control.Effects.{setting}
+use Rattle.service.specs.Control.Replies.{Sent, refusal-of, meant}
+use Rattle.service.specs.Control.Calls.{Opening, opening, opened, open-reply}
+use Rattle.service.proofs.control.Console.open.Reads as open-code
+use Rattle.service.proofs.control.Console.connect.Reads as connect-code
+use Rattle.service.proofs.control.Console.disconnect.Reads as disconnect-code
+use Rattle.service.proofs.control.Console.indicate.Reads as indicate-code
+use Rattle.service.proofs.control.Console.confirm.Reads as confirm-code
+use Rattle.service.proofs.control.Console.write.Reads as write-code
+use Rattle.demands.specs.Control.Point.{Call, connect, disconnect, confirm, indicate, write, Point, service, Event, event, step, run, Answers}
+use Rattle.demands.specs.Control.Laws.{Sound, stores, by, result-in, holder-by, setting-by, Heard, Unchanged, Spared}
+use Rattle.demands.proofs.ControlLaws.Kept.{sound-step, sound-after}
+use Rattle.demands.proofs.ControlLaws.Changes.{refusals, by-another}
+use Rattle.demands.proofs.ControlLaws.History.{holder-by-history}
+use Rattle.demands.proofs.ControlLaws.Settings.{setting-by-history, granted-to-holder}
+use Rattle.demands.proofs.ControlLaws.Alive.{alive-after}
+use Rattle.demands.proofs.ControlLaws.Meets.{by-reading, read-same}
+
+-- the console that a reply to an opening gives, unless it refuses
+abbrev pub console-of : Answer Sent × Console → Answer Console
+console-of x = from (x .0) (x .1)
+  where
+    from : Answer Sent → Console → Answer Console
+    from (refused n) k = refused n
+    from (given s) k = given k
 
 -- what the code may answer to an opening, by its contract
-pub data DidOpen (r : Ranges) : List ℕ → Answer Machine → Type 0 where
-  did-open : (κ : Lft) (s : RefT (List ℕ)) (o : Opened) (e : RefT (List ℕ) × (Ranges × Unit {0})) → open-code.Post (κ, tt) (s, (r, tt)) o e → DidOpen r (now s) (meant-opened o)
+pub data DidOpen : Opening → Answer Console → Type 0 where
+  did-open : (κ : Lft) (s : RefT (List ℕ)) (r : Ranges) (y : Reply) (e : RefT (List ℕ) × (Ranges × Unit {0})) →
+      open-code.Post (κ, tt) (s, (r, tt)) y e → DidOpen (opening (now s) r) (console-of (meant y))
 
--- what the code may answer to a call, by its contract, and the machine that it leaves
-pub data Did (m : Machine) : Call → Answer Reply × Machine → Type 0 where
-  did-connect : (c : ℕ) (r : Moved) (e : Machine × (ℕ × Unit {0})) → connect-code.Post tt (m, (c, tt)) r e → Did m (connect c) (meant-moved r)
-  did-disconnect : (c : ℕ) (r : Moved) (e : Machine × (ℕ × Unit {0})) → disconnect-code.Post tt (m, (c, tt)) r e → Did m (disconnect c) (meant-moved r)
-  did-confirm : (c : ℕ) (r : Moved) (e : Machine × (ℕ × Unit {0})) → confirm-code.Post tt (m, (c, tt)) r e → Did m (confirm c) (meant-moved r)
-  did-indicate : (c : ℕ) (on : Bool) (r : Moved) (e : Machine × (ℕ × (Bool × Unit {0}))) → indicate-code.Post tt (m, (c, (on, tt))) r e →
-      Did m (indicate c on) (meant-moved r)
-  did-write : (κ : Lft) (c : ℕ) (s : RefT (List ℕ)) (r : Written) (e : Machine × (ℕ × (RefT (List ℕ) × Unit {0}))) →
-      write-code.Post (κ, tt) (m, (c, (s, tt))) r e → Did m (write c (now s)) (meant-written r)
+-- what the code may answer to a call, by its contract, and the console that it leaves
+pub data Did (k : Console) : Call → Answer Sent × Console → Type 0 where
+  did-connect : (c : ℕ) (y : Reply) (e : Console × (ℕ × Unit {0})) → connect-code.Post tt (k, (c, tt)) y e → Did k (connect c) (meant y)
+  did-disconnect : (c : ℕ) (y : Reply) (e : Console × (ℕ × Unit {0})) → disconnect-code.Post tt (k, (c, tt)) y e → Did k (disconnect c) (meant y)
+  did-confirm : (c : ℕ) (y : Reply) (e : Console × (ℕ × Unit {0})) → confirm-code.Post tt (k, (c, tt)) y e → Did k (confirm c) (meant y)
+  did-indicate : (c : ℕ) (on : Bool) (y : Reply) (e : Console × (ℕ × (Bool × Unit {0}))) →
+      indicate-code.Post tt (k, (c, (on, tt))) y e → Did k (indicate c on) (meant y)
+  did-write : (κ : Lft) (c : ℕ) (s : RefT (List ℕ)) (y : Reply) (e : Console × (ℕ × (RefT (List ℕ) × Unit {0}))) →
+      write-code.Post (κ, tt) (k, (c, (s, tt))) y e → Did k (write c (now s)) (meant y)
 
-pub opens-alike : {s : List ℕ} {r : Ranges} {x : Answer Machine} → DidOpen r s x → x ≡ opened s r
-opens-alike (did-open κ s o e p) = p .means
+pub console-again : (a : Answer Console) → console-of (open-reply a) ≡ a
+console-again (refused n) = refl
+console-again (given k) = refl
 
-pub steps-alike : {m : Machine} {k : Call} {x : Answer Reply × Machine} → Did m k x → x ≡ step service m k
-steps-alike (did-connect c r e p) = p
-steps-alike (did-disconnect c r e p) = p
-steps-alike (did-confirm c r e p) = p
-steps-alike (did-indicate c on r e p) = p
-steps-alike (did-write κ c s r e p) = p .means
+pub opens-alike : {o : Opening} {a : Answer Console} → DidOpen o a → a ≡ opened o
+opens-alike (did-open κ s r y e p) = ap console-of (p .means) ∙ console-again (opened (opening (now s) r))
+
+pub steps-alike : {k : Console} {q : Call} {x : Answer Sent × Console} → Did k q x → x ≡ step k q
+steps-alike (did-connect c y e p) = p .means
+steps-alike (did-disconnect c y e p) = p .means
+steps-alike (did-confirm c y e p) = p .means
+steps-alike (did-indicate c on y e p) = p .means
+steps-alike (did-write κ c s y e p) = p .means
 
 -- ---- one call of the code: what it may change
 
-module _ {m : Machine} {k : Call} {x : Answer Reply × Machine} (d : Did m k x) where
-  pub ours-refusals : (refusal-of (x .0) ≡ 0) ⊎ Unchanged m x
-  ours-refusals = rw (steps-alike d) (refusals m k)
+module _ {k : Console} {q : Call} {x : Answer Sent × Console} (d : Did k q x) where
+  pub ours-refusals : (refusal-of (x .0) ≡ 0) ⊎ Unchanged k x
+  ours-refusals = rw (steps-alike d) (refusals k q)
 
-  pub ours-spares : (m .holder ≡ Client (caller k) → ⊥) → Spared m (caller k) (x .1)
-  ours-spares h = rw (steps-alike d) (by-another m k h)
+  pub ours-spares : (k .machine .holder ≡ by q → ⊥) → Spared (k .machine) (by q) (x .1 .machine)
+  ours-spares h = rw (steps-alike d) (by-another k q h)
 
-  pub ours-keeps : Sound m → Sound (x .1)
-  ours-keeps s = rw (steps-alike d) (sound-step m k s)
+  pub ours-keeps : Sound k → Sound (x .1)
+  ours-keeps s = rw (steps-alike d) (sound-step k q s)
 
 -- a write of an op code that stores succeeds for the holder alone
-pub ours-to-holder : {m : Machine} {c o a : ℕ} {p : List ℕ} {x : Answer Reply × Machine} → Did m (write c (o ∷ p)) x → row o .act ≡ Stores a →
-    getD (response-of (x .0)) 2 0 ≡ 1 → m .holder ≡ Client c
-ours-to-holder {m} {c} {o} {a} {p} d e h = granted-to-holder m c o a p e (rw (steps-alike d) at h)
+pub ours-to-holder : {k : Console} {c o : ℕ} {p : List ℕ} {x : Answer Sent × Console} → Did k (write c (o ∷ p)) x → stores (op-code o) ≡ true →
+    result-in (x .0) ≡ result-number Success → k .machine .holder ≡ Client c
+ours-to-holder {k} {c} {o} {p} d t h = granted-to-holder k c o p t (rw (steps-alike d) at h)
 
 -- ---- "control answers are those of the service": whoever answers as the contracts of the code say
 
-pub record ByContract (p : Point Machine) : Type 0 where
-  pub opens : (s : List ℕ) (r : Ranges) → DidOpen r s (p .opening s r)
-  pub steps : (m : Machine) (k : Call) → Did m k (step p m k)
+pub record ByContract (p : Point Console) : Type 0 where
+  pub opens : (o : Opening) → DidOpen o (p .opening o)
+  pub steps : (k : Console) (q : Call) → Did k q (p .calling k q)
 
-pub ours-answers : (p : Point Machine) → ByContract p → Answers p
+pub ours-answers : (p : Point Console) → ByContract p → Answers p
 ours-answers p h = by-reading p (record {
-  read = λ m. m;
-  opens = λ s r. read-same (p .opening s r) ∙ opens-alike (h .opens s r);
-  replies = λ m k. ap (λ (x : Answer Reply × Machine). x .0) (steps-alike (h .steps m k));
-  moves = λ m k. ap (λ (x : Answer Reply × Machine). x .1) (steps-alike (h .steps m k));
+  read = λ k. k;
+  opens = λ o. read-same (p .opening o) ∙ opens-alike (h .opens o);
+  replies = λ k q. ap (λ (x : Answer Sent × Console). x .0) (steps-alike (h .steps k q));
+  moves = λ k q. ap (λ (x : Answer Sent × Console). x .1) (steps-alike (h .steps k q));
 })
 
 -- ---- sequences of calls of the code
 
-pub data Ran : Machine → List Event → List Call → List Event × Machine → Type 0 where
-  over : {m : Machine} {past : List Event} → Ran m past [] (past, m)
-  then : {m : Machine} {past : List Event} {k : Call} {ks : List Call} {x : Answer Reply × Machine} {y : List Event × Machine} →
-      Did m k x → Ran (x .1) (record { call = k; answer = x .0 } ∷ past) ks y → Ran m past (k ∷ ks) y
+pub data Ran : Console → List Event → List Call → List Event × Console → Type 0 where
+  over : {k : Console} {past : List Event} → Ran k past [] (past, k)
+  then : {k : Console} {past : List Event} {q : Call} {qs : List Call} {x : Answer Sent × Console} {z : List Event × Console} →
+      Did k q x → Ran (x .1) (event q (x .0) ∷ past) qs z → Ran k past (q ∷ qs) z
 
-pub runs-alike : {m : Machine} {past : List Event} {ks : List Call} {y : List Event × Machine} → Ran m past ks y → y ≡ run service m past ks
+pub runs-alike : {k : Console} {past : List Event} {qs : List Call} {z : List Event × Console} → Ran k past qs z → z ≡ run service k past qs
 unfolding run
 runs-alike over = refl
-runs-alike {past = past} (then {k = k} {ks = ks} d r) =
-    runs-alike r ∙ ap (λ (x : Answer Reply × Machine). run service (x .1) (record { call = k; answer = x .0 } ∷ past) ks) (steps-alike d)
+runs-alike {past = past} (then {q = q} {qs = qs} d r) =
+    runs-alike r ∙ ap (λ (x : Answer Sent × Console). run service (x .1) (event q (x .0) ∷ past) qs) (steps-alike d)
 
--- after any sequence of calls from an opening, what happened and the machine: it is sound; its holder and each setting are those of what
+-- after any sequence of calls from an opening, what happened and the console: it is sound; its holder and each setting are those of what
 -- happened; and each client can be brought to write again
-pub record Lawful (y : List Event × Machine) : Type 0 where
-  pub sound : Sound (y .1)
-  pub holder-so : y .1 .holder ≡ holder-by (y .0) []
-  pub setting-so : (o a : ℕ) → row o .act ≡ Stores a → setting (y .1) o ≡ setting-by o (y .0)
-  pub alive : (c : ℕ) → c ≤ 3 → (more : List Call) × Heard (run service (y .1) [] more .1) c
+pub record Lawful (z : List Event × Console) : Type 0 where
+  pub sound : Sound (z .1)
+  pub holder-so : z .1 .machine .holder ≡ holder-by (z .0) []
+  pub setting-so : (i : ℕ) → stores (op-code i) ≡ true → setting (z .1 .machine) i ≡ setting-by i (z .0)
+  pub alive : (c : ℕ) → c ≤ 3 → (more : List Call) × Heard (run service (z .1) [] more .1) c
 
-pub ours-lawful : {s : List ℕ} {r : Ranges} {m : Machine} {ks : List Call} {y : List Event × Machine} → DidOpen r s (given m) → Ran m [] ks y → Lawful y
-ours-lawful {s} {r} {m} {ks} o ran =
-    let e : opened s r ≡ given m = sym (opens-alike o) in
+pub ours-lawful : {o : Opening} {k : Console} {qs : List Call} {z : List Event × Console} → DidOpen o (given k) → Ran k [] qs z → Lawful z
+ours-lawful {o} {k} {qs} d ran =
+    let e : opened o ≡ given k = sym (opens-alike d) in
     rw (runs-alike ran) (record {
-      sound = sound-after s r m e ks;
-      holder-so = holder-by-history s r m e ks;
-      setting-so = λ o a f. setting-by-history s r m e ks o a f;
-      alive = λ c h. alive-after s r m e ks c h;
+      sound = sound-after o k e qs;
+      holder-so = holder-by-history o k e qs;
+      setting-so = λ i t. setting-by-history o k e qs i t;
+      alive = λ c h. alive-after o k e qs c h;
     })

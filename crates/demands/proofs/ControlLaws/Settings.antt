@@ -1,115 +1,108 @@
 -- Each setting after any sequence of calls is the one that the history says; and only the holder's writes change one.
 use Prim.Native.Nat.{ℕ}
 use mathlib.Core.Path.{_≡_, refl, sym, ap, _∙_}
-use mathlib.Core.Bool.{Bool, true, false, cond, true≢false}
+use mathlib.Core.Bool.{true, false, cond, true≢false}
 use mathlib.Core.List.{List, [], _∷_}
 use native.Mathlib.Omega.{arith}
 use lib.Dec.{eqb}
-use lib.ListN.{getD}
-use Rattle.record.specs.declared.feature.Feature.{Feature}
+use lib.ListN.{length}
 use Rattle.record.specs.Answer.{Answer, given}
-use Rattle.codes.specs.declared.ranges.Ranges.{Ranges}
-use Rattle.machine.specs.declared.machine.Machine.{Machine}
-use Rattle.machine.specs.declared.machine.Who.the-variants.{Client}
-use Rattle.codes.specs.declared.op_codes.Act.{Act}
-use Rattle.codes.specs.declared.op_codes.Act.the-variants.{TakesControl, Resets, Starts, Halts, Stores, Nothing}
-use Rattle.codes.specs.OpCodes.{OpCode, row}
-use Rattle.machine.specs.Machine.{fresh, awaiting}
-use Rattle.machine.specs.Judging.{fit}
-use Rattle.machine.specs.Effects.{done, setting}
-use Rattle.console.specs.Control.Replies.{Reply, response-of}
-use Rattle.console.specs.Control.Calls.{opened, writes}
-use Rattle.console.specs.Control.Point.{Call, write, service, Event, step, run}
-use Rattle.console.specs.Control.Laws.{Sound, zero-setting, parameter, succeeded, setting-by}
 use Rattle.record.proofs.Tests.{passed, failed, tested, eqb-eq, eqb-ne, eqb-false}
-use Rattle.codes.proofs.Rule.{row-rule, row-op}
-use Rattle.machine.proofs.Fits.{length-fit}
-use Rattle.console.proofs.ControlLaws.Steps.{Stepped, refusal, connected, gone, indicated, confirmed, denied, granted, steps}
-use Rattle.console.proofs.ControlLaws.Places.{stored-same, stored-other, zero-at}
-use Rattle.console.proofs.ControlLaws.Kept.{opened-fresh, sound-fresh, sound-step}
-use Rattle.console.proofs.ControlLaws.Changes.{is-client}
+use Rattle.service.specs.declared.control.Console.{Console}
+use Rattle.service.specs.declared.control.machine.Machine.{Machine}
+use Rattle.service.specs.declared.control.machine.Setup.{Setup}
+use Rattle.service.specs.declared.control.machine.Who.the-variants.{Client}
+use Rattle.service.specs.declared.control.op_codes.OpCode.{OpCode}
+use Rattle.service.specs.declared.control.op_codes.Act.{Act}
+use Rattle.service.specs.declared.control.op_codes.Act.the-variants.{TakesControl, Resets, Starts, Halts, Stores}
+use Rattle.service.specs.declared.control.op_codes.Lookup.the-variants.{Known}
+use Rattle.service.specs.declared.control.judging.WriteResult.the-variants.{Success}
+use Rattle.service.specs.Control.OpCodes.{op-code}
+use Rattle.service.specs.Control.Parameters.{size}
+use Rattle.service.specs.Control.Judging.{result-number, controls}
+use Rattle.service.specs.Control.Effects.{done, setting}
+use Rattle.service.specs.Control.Console.{first}
+use Rattle.service.specs.Control.Replies.{Sent}
+use Rattle.service.specs.Control.Calls.{Opening, opened, writes}
+use Rattle.service.proofs.ControlLaws.Fits.{length-fit}
+use Rattle.demands.specs.Control.Point.{Call, write, service, Event, event, step, run}
+use Rattle.demands.specs.Control.Laws.{Sound, keeps, stores, zero-setting, parameter, result-in, succeeded, setting-by}
+use Rattle.demands.proofs.ControlLaws.Numbers.{Number, number-so, not-01}
+use Rattle.demands.proofs.ControlLaws.Steps.{Stepped, refusal, connected, gone, indicated, confirmed, denied, granted, steps}
+use Rattle.demands.proofs.ControlLaws.Places.{stored-same, stored-other, zero-at}
+use Rattle.demands.proofs.ControlLaws.Kept.{opened-first, sound-first, sound-step}
+use Rattle.demands.proofs.ControlLaws.Changes.{is-client}
 
 -- a setting after one more event
 next : ℕ → Event → List ℕ → List ℕ
-next o e before = cond (succeeded 1 e) (zero-setting (row o) (row o .act)) (cond (succeeded o e) (parameter (e .call)) before)
-
--- only 01 resets: a test that computes over the table
-abbrev resets : Act → Bool
-resets TakesControl = false
-resets Resets = true
-resets Starts = false
-resets Halts = false
-resets (Stores at) = false
-resets Nothing = false
-
-abbrev only-01 : OpCode → Bool
-only-01 r = cond (resets (r .act)) (eqb (r .op) 1) true
-
-reset-is-01 : (o : ℕ) → row o .act ≡ Resets → eqb o 1 ≡ true
-reset-is-01 o e =
-    let h : cond (resets (row o .act)) (eqb (row o .op) 1) true ≡ true = row-rule only-01 o refl refl in
-    rw (e, row-op o) at h
+next o e before = cond (succeeded 0x01 e) (zero-setting (op-code o)) (cond (succeeded o e) (parameter (e .call)) before)
 
 -- ---- one call
 
-module _ (m : Machine) (s : Sound m) (c w : ℕ) (p : List ℕ) (g : fit (m .ranges) (row w) p ≡ true) (o a : ℕ) (e : row o .act ≡ Stores a) where
-  by-reset : setting (done (awaiting m (Client c)) c (row 1 .act) p) o ≡ zero-setting (row o) (row o .act)
-  unfolding row setting
-  by-reset = zero-at o
+module _ (m : Machine) (w : length (m .settings) ≡ 49) (c i : ℕ) (y : OpCode) (e : op-code i ≡ Known y) (p : List ℕ)
+    (n : length p ≡ size (y .parameter)) where
+  module _ (o : ℕ) (t : stores (op-code o) ≡ true) where
+    -- an op code that stores nothing is not the one whose setting it is
+    elsewhere : keeps (y .act) ≡ false → eqb i o ≡ false
+    elsewhere f = eqb-false (λ (q : i ≡ o). true≢false (sym t ∙ ap (λ (j : ℕ). stores (op-code j)) (sym q) ∙ rw e f))
 
-  -- a write of an op code that stores elsewhere, or nothing, leaves the setting
-  after-done : eqb w 1 ≡ false → (x : Act) → row w .act ≡ x → setting (done (awaiting m (Client c)) c x p) o ≡ cond (eqb w o) p (setting m o)
-  after-done f TakesControl d = rw (eqb-false (λ (q : w ≡ o). let z : _≡_ {A = ℕ} 0 1 = cc in omega arith)) (unfold setting in refl)
-  after-done f Resets d = absurd (true≢false (sym (reset-is-01 w d) ∙ f))
-  after-done f Starts d = rw (eqb-false (λ (q : w ≡ o). let z : _≡_ {A = ℕ} 0 1 = cc in omega arith)) (unfold setting in refl)
-  after-done f Halts d = rw (eqb-false (λ (q : w ≡ o). let z : _≡_ {A = ℕ} 0 1 = cc in omega arith)) (unfold setting in refl)
-  after-done f (Stores b) d = elim (tested (eqb w o)) [
-    | passed t ↦
-        let q : w ≡ o = eqb-eq w o t in
-        rw (t, ← q) ((unfold setting in stored-same (awaiting m (Client c)) w b p d (length-fit (m .ranges) w p g) (s .room)))
-    | failed t ↦
-        rw t ((unfold setting in stored-other (awaiting m (Client c)) w b p d (length-fit (m .ranges) w p g) (s .room) o (λ (q : o ≡ w). eqb-ne w o t (sym q))))
-  ]
-  after-done f Nothing d = rw (eqb-false (λ (q : w ≡ o). let z : _≡_ {A = ℕ} 0 1 = cc in omega arith)) (unfold setting in refl)
+    untouched : keeps (y .act) ≡ false → (i ≡ 1 → ⊥) → setting m o ≡ cond (eqb i 0x01) (zero-setting (op-code o)) (cond (eqb i o) p (setting m o))
+    untouched f h = rw (eqb-false h, elsewhere f)
 
-  next-granted : setting (done (awaiting m (Client c)) c (row w .act) p) o ≡ cond (eqb w 1) (zero-setting (row o) (row o .act)) (cond (eqb w o) p (setting m o))
-  next-granted = elim (tested (eqb w 1)) [
-    | passed t ↦ rw (eqb-eq w 1 t) by-reset
-    | failed t ↦ rw t (after-done t (row w .act) refl)
-  ]
+    -- a write that succeeds resets the setting, stores it, or leaves it
+    next-done : (a : Act) → y .act ≡ a → Number i a →
+        setting (done m c a p) o ≡ cond (eqb i 0x01) (zero-setting (op-code o)) (cond (eqb i o) p (setting m o))
+    next-done TakesControl f h = unfold setting in untouched (rw f) (λ (q : i ≡ 1). omega arith)
+    next-done Resets f h = rw h (unfold setting in zero-at o)
+    next-done Starts f h = unfold setting in untouched (rw f) (λ (q : i ≡ 1). omega arith)
+    next-done Halts f h = unfold setting in untouched (rw f) (λ (q : i ≡ 1). omega arith)
+    next-done (Stores b) f h = rw (eqb-false (λ (q : i ≡ 1). omega arith)) (elim (tested (eqb i o)) [
+      | passed t ↦ rw (t, ← eqb-eq i o t) (stored-same m i y b p e f n w)
+      | failed t ↦ rw t (stored-other m i y b p e f n o (λ (q : o ≡ i). eqb-ne i o t (sym q)))
+    ])
 
-module _ (m : Machine) (s : Sound m) (o a : ℕ) (e : row o .act ≡ Stores a) where
-  next-stepped : {k : Call} {x : Answer Reply × Machine} → Stepped m k x → setting (x .1) o ≡ next o (record { call = k; answer = x .0 }) (setting m o)
-  unfolding next setting
-  next-stepped (refusal n l g) = refl
-  next-stepped (connected c h f) = refl
-  next-stepped (gone c h f) = refl
-  next-stepped (indicated c on h f) = refl
-  next-stepped (confirmed c h f g) = refl
-  next-stepped (denied c w p h n l g) = let z : eqb n 1 ≡ false = eqb-false (λ (e : n ≡ 1). omega arith) in rw z
-  next-stepped (granted c w p h g) = next-granted m s c w p (g .suits) o a e
+next-stepped : (k : Console) → Sound k → (o : ℕ) → stores (op-code o) ≡ true → {q : Call} {x : Answer Sent × Console} → Stepped k q x →
+    setting (x .1 .machine) o ≡ next o (event q (x .0)) (setting (k .machine) o)
+unfolding next setting
+next-stepped k s o t (refusal n l g) = refl
+next-stepped k s o t (connected c h f) = refl
+next-stepped k s o t (gone c h f) = refl
+next-stepped k s o t (indicated c on h f) = refl
+next-stepped k s o t (confirmed c h f g) = refl
+next-stepped k s o t (denied c i p h r f) = rw (not-01 r f)
+next-stepped k s o t (granted c i p h y e g) =
+    next-done (k .machine) (s .room) c i y e p (length-fit (k .machine .setup .ranges) y p (g .suits)) o t (y .act) refl (number-so i y e)
 
 -- ---- sequences of calls
 
-follows : (o a : ℕ) → row o .act ≡ Stores a → (m : Machine) → Sound m → (past : List Event) (ks : List Call) → setting m o ≡ setting-by o past →
-    setting (run service m past ks .1) o ≡ setting-by o (run service m past ks .0)
+follows : (o : ℕ) → stores (op-code o) ≡ true → (k : Console) → Sound k → (past : List Event) (qs : List Call) →
+    setting (k .machine) o ≡ setting-by o past →
+    setting (run service k past qs .1 .machine) o ≡ setting-by o (run service k past qs .0)
 unfolding run
-follows o a e m s past [] f = f
-follows o a e m s past (k ∷ ks) f =
-    follows o a e (step service m k .1) (sound-step m k s) (record { call = k; answer = step service m k .0 } ∷ past) ks
-    (next-stepped m s o a e (steps m k) ∙ (unfold next setting-by in ap (next o (record { call = k; answer = step service m k .0 })) f))
+follows o t k s past [] f = f
+follows o t k s past (q ∷ qs) f =
+    follows o t (step k q .1) (sound-step k q s) (event q (step k q .0) ∷ past) qs
+    (next-stepped k s o t (steps k q) ∙ (unfold next setting-by in ap (next o (event q (step k q .0))) f))
 
-pub setting-by-history : (s : List ℕ) (r : Ranges) (m : Machine) → opened s r ≡ given m → (ks : List Call) → (o a : ℕ) → row o .act ≡ Stores a →
-    setting (run service m [] ks .1) o ≡ setting-by o (run service m [] ks .0)
-setting-by-history s r m q ks o a e =
-    let f : (t : Feature) × (m ≡ fresh t r) = opened-fresh s r m q in
-    follows o a e m (rw (f .1) (sound-fresh (f .0) r)) [] ks (rw (f .1) (unfold setting setting-by in zero-at o))
+pub setting-by-history : (o : Opening) (k : Console) → opened o ≡ given k → (qs : List Call) → (i : ℕ) → stores (op-code i) ≡ true →
+    setting (run service k [] qs .1 .machine) i ≡ setting-by i (run service k [] qs .0)
+setting-by-history o k e qs i t =
+    let f : (s : Setup) × (k ≡ first s) = opened-first o k e in
+    follows i t k (rw (f .1) (sound-first (f .0))) [] qs (rw (f .1) (unfold setting setting-by in zero-at i))
 
 -- ---- a write of an op code that stores succeeds for the holder alone
-pub granted-to-holder : (m : Machine) (c o a : ℕ) (p : List ℕ) → row o .act ≡ Stores a → getD (response-of (writes m c (o ∷ p) .0)) 2 0 ≡ 1 → m .holder ≡ Client c
-granted-to-holder m c o a p e h = from (steps m (write c (o ∷ p))) h
+pub granted-to-holder : (k : Console) (c o : ℕ) (p : List ℕ) → stores (op-code o) ≡ true → result-in (writes k c (o ∷ p) .0) ≡ result-number Success →
+    k .machine .holder ≡ Client c
+granted-to-holder k c o p t h = from (steps k (write c (o ∷ p))) h
   where
-    from : {x : Answer Reply × Machine} → Stepped m (write c (o ∷ p)) x → getD (response-of (x .0)) 2 0 ≡ 1 → m .holder ≡ Client c
+    from-act : (a : Act) → keeps a ≡ true → controls (k .machine .holder) c a ≡ true → k .machine .holder ≡ Client c
+    from-act TakesControl e f = absurd (true≢false (sym e))
+    from-act Resets e f = is-client (k .machine .holder) c f
+    from-act Starts e f = is-client (k .machine .holder) c f
+    from-act Halts e f = is-client (k .machine .holder) c f
+    from-act (Stores at) e f = is-client (k .machine .holder) c f
+
+    from : {x : Answer Sent × Console} → Stepped k (write c (o ∷ p)) x → result-in (x .0) ≡ result-number Success → k .machine .holder ≡ Client c
     from (refusal n l g) f = absurd (omega arith)
-    from (denied c o p i n l g) f = absurd (omega arith)
-    from (granted c o p i g) f = is-client (m .holder) c (rw e at (g .controlled))
+    from (denied c o p i r e) f = absurd (eqb-ne (result-number r) 1 (not-01 r e) f)
+    from (granted c o p i x e g) f = from-act (x .act) (rw e at t) (g .controlled)

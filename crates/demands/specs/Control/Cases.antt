@@ -4,11 +4,11 @@ use mathlib.Core.Bool.{true}
 use mathlib.Core.List.{List, [], _∷_, _++_, map}
 use lib.IntN.{pos, negsuc}
 use Rattle.record.specs.Answer.{Answer, refused, given}
-use Rattle.codes.specs.declared.ranges.Ranges.{Ranges}
-use Rattle.machine.specs.declared.machine.Machine.{Machine}
-use Rattle.console.specs.Control.Replies.{Reply, reply}
-use Rattle.console.specs.Control.Calls.{opened}
-use Rattle.console.specs.Control.Point.{Call, connect, confirm, indicate, write, service, Event, run}
+use Rattle.service.specs.declared.control.Console.{Console}
+use Rattle.service.specs.declared.control.ranges.Ranges.{Ranges}
+use Rattle.service.specs.Control.Replies.{Sent, sent}
+use Rattle.service.specs.Control.Calls.{opening, opened}
+use Rattle.demands.specs.Control.Point.{Call, connect, confirm, indicate, write, service, latest, run}
 
 -- ranges, and a machine with every target bit but 5, energy
 abbrev pub ranges : Ranges
@@ -20,17 +20,13 @@ ranges = record {
   «heart_rate» = record { least = 60; greatest = 200 };
 }
 
-abbrev pub machine : Answer Machine
-machine = opened (0 ∷ 0 ∷ 0 ∷ 0 ∷ 0xdf ∷ 0xff ∷ 0xff ∷ 0xff ∷ []) ranges
+abbrev pub console : Answer Console
+console = opened (opening (0 ∷ 0 ∷ 0 ∷ 0 ∷ 0xdf ∷ 0xff ∷ 0xff ∷ 0xff ∷ []) ranges)
 
-abbrev pub latest : List Event → Answer Reply
-latest [] = reply [] []
-latest (e ∷ past) = e .answer
-
--- the reply to the last of some calls, from opening
-abbrev pub replied : Answer Machine → List Call → Answer Reply
-replied (refused n) ks = refused n
-replied (given m) ks = latest (run service m [] ks .0)
+-- the answer to the last of some calls, from opening
+abbrev pub answer-to : Answer Console → List Call → Answer Sent
+answer-to (refused n) qs = refused n
+answer-to (given k) qs = latest (run service k [] qs .0)
 
 -- a client that can write; a write, confirmed; a client that holds control
 abbrev pub ready : ℕ → List Call
@@ -44,35 +40,35 @@ holds c = ready c ++ asks c (0 ∷ [])
 
 pub record Case : Type 0 where
   pub calls : List Call
-  pub expected : Answer Reply
+  pub expected : Answer Sent
 
-abbrev pub _gives_ : List Call → Answer Reply → Case
-_gives_ ks r = record { calls = ks; expected = r }
+abbrev pub _gives_ : List Call → Answer Sent → Case
+_gives_ qs a = record { calls = qs; expected = a }
 
 infix 5 _gives_
 -- P: "the holder's second 07, the first confirmed, answers 80 07 04"
 abbrev pub second-start : Case
-second-start = holds 0 ++ asks 0 (7 ∷ []) ++ write 0 (7 ∷ []) ∷ [] gives reply (0x80 ∷ 7 ∷ 4 ∷ []) []
+second-start = holds 0 ++ asks 0 (7 ∷ []) ++ write 0 (7 ∷ []) ∷ [] gives sent (0x80 ∷ 7 ∷ 4 ∷ []) []
 
 abbrev pub cases : List Case
 cases =
     second-start ∷
-    (ready 0 ++ write 0 (0 ∷ []) ∷ [] gives reply (0x80 ∷ 0 ∷ 1 ∷ []) []) ∷
-    (holds 0 ++ ready 1 ++ write 1 (0 ∷ []) ∷ [] gives reply (0x80 ∷ 0 ∷ 4 ∷ []) []) ∷
-    (holds 0 ++ ready 1 ++ write 1 (0 ∷ 0 ∷ []) ∷ [] gives reply (0x80 ∷ 0 ∷ 3 ∷ []) []) ∷
-    (ready 0 ++ write 0 (0x13 ∷ 1 ∷ []) ∷ [] gives reply (0x80 ∷ 0x13 ∷ 2 ∷ []) []) ∷
-    (holds 0 ++ write 0 (9 ∷ 1 ∷ 0 ∷ []) ∷ [] gives reply (0x80 ∷ 9 ∷ 2 ∷ []) []) ∷
-    (ready 0 ++ write 0 (2 ∷ 0xe8 ∷ 3 ∷ []) ∷ [] gives reply (0x80 ∷ 2 ∷ 5 ∷ []) []) ∷
-    (holds 0 ++ write 0 (2 ∷ 0xe8 ∷ 3 ∷ []) ∷ [] gives reply (0x80 ∷ 2 ∷ 1 ∷ []) (5 ∷ 0xe8 ∷ 3 ∷ [])) ∷
-    (holds 0 ++ write 0 (3 ∷ 0xff ∷ 0xff ∷ []) ∷ [] gives reply (0x80 ∷ 3 ∷ 1 ∷ []) (6 ∷ 0xff ∷ 0xff ∷ [])) ∷
-    (holds 0 ++ write 0 (3 ∷ 0 ∷ 0x80 ∷ []) ∷ [] gives reply (0x80 ∷ 3 ∷ 3 ∷ []) []) ∷
-    (holds 0 ++ write 0 (4 ∷ 0xff ∷ []) ∷ [] gives reply (0x80 ∷ 4 ∷ 3 ∷ []) []) ∷
-    (holds 0 ++ write 0 (5 ∷ 0 ∷ 0x80 ∷ []) ∷ [] gives reply (0x80 ∷ 5 ∷ 1 ∷ []) (8 ∷ 0 ∷ 0x80 ∷ [])) ∷
-    (holds 0 ++ write 0 (8 ∷ 3 ∷ []) ∷ [] gives reply (0x80 ∷ 8 ∷ 3 ∷ []) []) ∷
-    (holds 0 ++ write 0 (8 ∷ 1 ∷ []) ∷ [] gives reply (0x80 ∷ 8 ∷ 4 ∷ []) []) ∷
-    (holds 0 ++ asks 0 (7 ∷ []) ++ write 0 (8 ∷ 2 ∷ []) ∷ [] gives reply (0x80 ∷ 8 ∷ 1 ∷ []) (2 ∷ 2 ∷ [])) ∷
-    (holds 0 ++ asks 0 (1 ∷ []) ++ write 0 (7 ∷ []) ∷ [] gives reply (0x80 ∷ 7 ∷ 5 ∷ []) []) ∷
-    (holds 0 ++ write 0 (0x14 ∷ 9 ∷ 0 ∷ []) ∷ [] gives reply (0x80 ∷ 0x14 ∷ 1 ∷ []) (0x15 ∷ 9 ∷ 0 ∷ [])) ∷
+    (ready 0 ++ write 0 (0 ∷ []) ∷ [] gives sent (0x80 ∷ 0 ∷ 1 ∷ []) []) ∷
+    (holds 0 ++ ready 1 ++ write 1 (0 ∷ []) ∷ [] gives sent (0x80 ∷ 0 ∷ 4 ∷ []) []) ∷
+    (holds 0 ++ ready 1 ++ write 1 (0 ∷ 0 ∷ []) ∷ [] gives sent (0x80 ∷ 0 ∷ 3 ∷ []) []) ∷
+    (ready 0 ++ write 0 (0x13 ∷ 1 ∷ []) ∷ [] gives sent (0x80 ∷ 0x13 ∷ 2 ∷ []) []) ∷
+    (holds 0 ++ write 0 (9 ∷ 1 ∷ 0 ∷ []) ∷ [] gives sent (0x80 ∷ 9 ∷ 2 ∷ []) []) ∷
+    (ready 0 ++ write 0 (2 ∷ 0xe8 ∷ 3 ∷ []) ∷ [] gives sent (0x80 ∷ 2 ∷ 5 ∷ []) []) ∷
+    (holds 0 ++ write 0 (2 ∷ 0xe8 ∷ 3 ∷ []) ∷ [] gives sent (0x80 ∷ 2 ∷ 1 ∷ []) (5 ∷ 0xe8 ∷ 3 ∷ [])) ∷
+    (holds 0 ++ write 0 (3 ∷ 0xff ∷ 0xff ∷ []) ∷ [] gives sent (0x80 ∷ 3 ∷ 1 ∷ []) (6 ∷ 0xff ∷ 0xff ∷ [])) ∷
+    (holds 0 ++ write 0 (3 ∷ 0 ∷ 0x80 ∷ []) ∷ [] gives sent (0x80 ∷ 3 ∷ 3 ∷ []) []) ∷
+    (holds 0 ++ write 0 (4 ∷ 0xff ∷ []) ∷ [] gives sent (0x80 ∷ 4 ∷ 3 ∷ []) []) ∷
+    (holds 0 ++ write 0 (5 ∷ 0 ∷ 0x80 ∷ []) ∷ [] gives sent (0x80 ∷ 5 ∷ 1 ∷ []) (8 ∷ 0 ∷ 0x80 ∷ [])) ∷
+    (holds 0 ++ write 0 (8 ∷ 3 ∷ []) ∷ [] gives sent (0x80 ∷ 8 ∷ 3 ∷ []) []) ∷
+    (holds 0 ++ write 0 (8 ∷ 1 ∷ []) ∷ [] gives sent (0x80 ∷ 8 ∷ 4 ∷ []) []) ∷
+    (holds 0 ++ asks 0 (7 ∷ []) ++ write 0 (8 ∷ 2 ∷ []) ∷ [] gives sent (0x80 ∷ 8 ∷ 1 ∷ []) (2 ∷ 2 ∷ [])) ∷
+    (holds 0 ++ asks 0 (1 ∷ []) ++ write 0 (7 ∷ []) ∷ [] gives sent (0x80 ∷ 7 ∷ 5 ∷ []) []) ∷
+    (holds 0 ++ write 0 (0x14 ∷ 9 ∷ 0 ∷ []) ∷ [] gives sent (0x80 ∷ 0x14 ∷ 1 ∷ []) (0x15 ∷ 9 ∷ 0 ∷ [])) ∷
     (ready 4 gives refused 10) ∷
     (connect 0 ∷ connect 0 ∷ [] gives refused 17) ∷
     (ready 0 ++ write 0 [] ∷ [] gives refused 18) ∷
@@ -81,8 +77,8 @@ cases =
     (holds 0 ++ confirm 0 ∷ [] gives refused 21) ∷ []
 
 -- what each case is answered, and what it must be
-abbrev pub answered : List (Answer Reply)
-answered = map (λ k. replied machine (k .calls)) cases
+abbrev pub answered : List (Answer Sent)
+answered = map (λ x. answer-to console (x .calls)) cases
 
-abbrev pub expected-all : List (Answer Reply)
-expected-all = map (λ k. k .expected) cases
+abbrev pub expected-all : List (Answer Sent)
+expected-all = map (λ x. x .expected) cases

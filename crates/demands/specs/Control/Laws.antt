@@ -1,4 +1,4 @@
--- What holds of a machine after any sequence of calls from its opening: the statements that proofs/ proves of the service.
+-- What holds of a console after any sequence of calls from its opening: the statements that proofs/ proves of the service.
 use Prim.Native.Nat.{ℕ, _≤_}
 use mathlib.Core.Path.{_≡_}
 use mathlib.Core.Logic.{_⊎_}
@@ -7,64 +7,82 @@ use mathlib.Core.List.{List, [], _∷_}
 use lib.Dec.{eqb}
 use lib.ListN.{length, getD, drop, replicate}
 use Rattle.record.specs.Answer.{Answer}
-use Rattle.codes.specs.declared.ranges.Ranges.{Ranges}
-use Rattle.machine.specs.declared.machine.Machine.{Machine}
-use Rattle.machine.specs.declared.machine.Who.{Who}
-use Rattle.machine.specs.declared.machine.Who.the-variants.{Nobody, Client}
-use Rattle.codes.specs.declared.op_codes.Act.{Act}
-use Rattle.codes.specs.declared.op_codes.Act.the-variants.{TakesControl, Resets, Starts, Halts, Stores, Nothing}
-use Rattle.codes.specs.Ranges.{allowed}
-use Rattle.codes.specs.OpCodes.{OpCode, row}
-use Rattle.codes.specs.Parameters.{size}
-use Rattle.machine.specs.Machine.{someone, is-connected, is-indicating}
-use Rattle.console.specs.Control.Replies.{Reply, refusal-of, response-of, status-of}
-use Rattle.machine.specs.Effects.{setting}
-use Rattle.console.specs.Control.Point.{Call, connect, disconnect, confirm, indicate, write, Event}
+use Rattle.service.specs.declared.control.Client.{Client as Link}
+use Rattle.service.specs.declared.control.Console.{Console}
+use Rattle.service.specs.declared.control.ranges.Ranges.{Ranges}
+use Rattle.service.specs.declared.control.machine.Machine.{Machine}
+use Rattle.service.specs.declared.control.machine.Who.{Who}
+use Rattle.service.specs.declared.control.machine.Who.the-variants.{Nobody, Client}
+use Rattle.service.specs.declared.control.op_codes.OpCode.{OpCode}
+use Rattle.service.specs.declared.control.op_codes.Act.{Act}
+use Rattle.service.specs.declared.control.op_codes.Act.the-variants.{TakesControl, Resets, Starts, Halts, Stores}
+use Rattle.service.specs.declared.control.op_codes.Lookup.{Lookup}
+use Rattle.service.specs.declared.control.op_codes.Lookup.the-variants.{Known, Unknown}
+use Rattle.service.specs.declared.control.judging.WriteResult.the-variants.{Success}
+use Rattle.service.specs.Control.Ranges.{allowed}
+use Rattle.service.specs.Control.OpCodes.{op-code}
+use Rattle.service.specs.Control.Parameters.{size}
+use Rattle.service.specs.Control.Machine.{is, someone}
+use Rattle.service.specs.Control.Judging.{result-number}
+use Rattle.service.specs.Control.Effects.{setting}
+use Rattle.service.specs.Control.Console.{absent, is-connected, is-indicating}
+use Rattle.service.specs.Control.Replies.{Sent, refusal-of, response-of, status-of}
+use Rattle.demands.specs.Control.Point.{Call, connect, disconnect, confirm, indicate, write, Event}
 
 -- ---- invariants
 
 -- nobody, or a connected client
-abbrev pub Present : List Bool → Who → Type 0
-Present connected Nobody = Unit {0}
-Present connected (Client c) = getD connected c false ≡ true
+abbrev pub Present : List Link → Who → Type 0
+Present clients Nobody = Unit {0}
+Present clients (Client c) = getD clients c absent .connected ≡ true
 
--- four clients; only a connected client has indications on, is awaited, holds control. (One response at most awaits: `awaited` is one value.)
-pub record Links (connected indicating : List Bool) (awaited holder : Who) : Type 0 where
-  pub four : length connected ≡ 4
-  pub four-too : length indicating ≡ 4
-  pub indicating-connected : (c : ℕ) → getD indicating c false ≡ true → getD connected c false ≡ true
-  pub awaited-connected : Present connected awaited
-  pub holder-connected : Present connected holder
+-- "Clients are 0 to 3." "Disconnect frees control held by that client, its indications and its awaited response.": only a connected client
+-- has indications on, is awaited, holds control. "Over all clients one response at most awaits confirmation.": `awaited` is one value.
+pub record Links (k : Console) : Type 0 where
+  pub four : length (k .clients) ≡ 4
+  pub indicating-connected : (c : ℕ) → is-indicating k c ≡ true → is-connected k c ≡ true
+  pub awaited-connected : Present (k .clients) (k .awaited)
+  pub holder-connected : Present (k .clients) (k .machine .holder)
 
--- a setting at zero: as many zero octets as its parameter has
-abbrev pub zero-setting : OpCode → Act → List ℕ
-zero-setting r TakesControl = []
-zero-setting r Resets = []
-zero-setting r Starts = []
-zero-setting r Halts = []
-zero-setting r (Stores at) = replicate (size (r .parameter)) 0
-zero-setting r Nothing = []
+-- whether success stores the parameter: "02 to 06, 09 to 12 and 14 store the parameter octets."
+abbrev pub keeps : Act → Bool
+keeps TakesControl = false
+keeps Resets = false
+keeps Starts = false
+keeps Halts = false
+keeps (Stores at) = true
 
--- a setting is zero; or it has its right length and lies in its range, if it has one
-pub data Right (ranges : Ranges) (o : ℕ) (p : List ℕ) : Type 0 where
-  at-zero : p ≡ zero-setting (row o) (row o .act) → Right ranges o p
-  set-to : length p ≡ size (row o .parameter) → allowed ranges (row o .bound) p ≡ true → Right ranges o p
+abbrev pub stores : Lookup → Bool
+stores (Known x) = keeps (x .act)
+stores Unknown = false
 
-pub record Sound (m : Machine) : Type 0 where
-  pub links : Links (m .connected) (m .indicating) (m .awaited) (m .holder)
-  pub room : length (m .settings) ≡ 49
-  pub right : (o : ℕ) → Right (m .ranges) o (setting m o)
+-- "every setting is zero": as many zero octets as the parameter has
+abbrev pub zero-setting : Lookup → List ℕ
+zero-setting (Known x) = cond (keeps (x .act)) (replicate (size (x .parameter)) 0) []
+zero-setting Unknown = []
+
+-- a setting is zero; or it has its right length and lies in its range, if it has one: "wrong length, value outside its range .., result 03"
+pub data Right (ranges : Ranges) : Lookup → List ℕ → Type 0 where
+  at-zero : {l : Lookup} {p : List ℕ} → p ≡ zero-setting l → Right ranges l p
+  set-to : {x : OpCode} {p : List ℕ} → length p ≡ size (x .parameter) → allowed ranges (x .bound) p ≡ true → Right ranges (Known x) p
+
+-- what holds of every console to which calls have led: its clients, the room of its settings, and each setting
+pub record Sound (k : Console) : Type 0 where
+  pub links : Links k
+  pub room : length (k .machine .settings) ≡ 49
+  pub right : (o : ℕ) → Right (k .machine .setup .ranges) (op-code o) (setting (k .machine) o)
 
 -- ---- who calls, and what was granted
 
-abbrev pub caller : Call → ℕ
-caller (connect c) = c
-caller (disconnect c) = c
-caller (confirm c) = c
-caller (indicate c on) = c
-caller (write c s) = c
+-- who makes a call: "Calls: connect, disconnect, indications on and off, write, confirm."
+abbrev pub by : Call → Who
+by (connect c) = Client c
+by (disconnect c) = Client c
+by (confirm c) = Client c
+by (indicate c on) = Client c
+by (write c s) = Client c
 
--- the octets after the op code
+-- the octets after the op code: "store the parameter octets"
 abbrev pub parameter : Call → List ℕ
 parameter (connect c) = []
 parameter (disconnect c) = []
@@ -72,10 +90,18 @@ parameter (confirm c) = []
 parameter (indicate c on) = []
 parameter (write c s) = drop 1 s
 
--- the response says that an op code succeeded: 80, op code, 01
-abbrev pub succeeded : ℕ → Event → Bool
-succeeded o e = eqb (getD (response-of (e .answer)) 2 0) 1 && eqb (getD (response-of (e .answer)) 1 0) o
+-- "Response: 80, op code, result."
+abbrev pub op-in : Answer Sent → ℕ
+op-in a = getD (response-of a) 1 0
 
+abbrev pub result-in : Answer Sent → ℕ
+result-in a = getD (response-of a) 2 0
+
+-- the response says that an op code succeeded: "else 01"
+abbrev pub succeeded : ℕ → Event → Bool
+succeeded o e = eqb (result-in (e .answer)) (result-number Success) && eqb (op-in (e .answer)) o
+
+-- "Disconnect frees control held by that client"
 abbrev pub is-disconnect : Call → Bool
 is-disconnect (connect c) = false
 is-disconnect (disconnect c) = true
@@ -83,53 +109,55 @@ is-disconnect (confirm c) = false
 is-disconnect (indicate c on) = false
 is-disconnect (write c s) = false
 
--- a client's successful reset, or its disconnect
+-- a client's successful reset, or its disconnect: "01 zeroes every setting, stops and frees control"
 abbrev pub ends : ℕ → Event → Bool
-ends c e = (succeeded 1 e || (is-disconnect (e .call) && eqb (refusal-of (e .answer)) 0)) && eqb c (caller (e .call))
+ends c e = (succeeded 0x01 e || (is-disconnect (e .call) && eqb (refusal-of (e .answer)) 0)) && is (by (e .call)) c
 
 abbrev pub any : (Event → Bool) → List Event → Bool
 any f [] = false
 any f (e ∷ es) = f e || any f es
 
--- the holder by what has happened, newest first, with what came after it: "the last client whose 00 succeeded, if it has had no successful
--- reset and no disconnect since, otherwise nobody"
+-- who has control that was given to this client, by what came after it
+abbrev pub unless-ended : List Event → Who → Who
+unless-ended since Nobody = Nobody
+unless-ended since (Client c) = cond (any (ends c) since) Nobody (Client c)
+
+-- "00 gives control": the holder by what has happened, newest first, with what came after it: "the last client whose 00 succeeded, if it has
+-- had no successful reset and no disconnect since, otherwise nobody"
 unfoldable pub holder-by : List Event → List Event → Who
 holder-by [] since = Nobody
-holder-by (e ∷ past) since =
-    let before : Who = holder-by past (e ∷ since) in
-    cond (succeeded 0 e) (cond (any (ends (caller (e .call))) since) Nobody (Client (caller (e .call)))) before
+holder-by (e ∷ past) since = let before : Who = holder-by past (e ∷ since) in cond (succeeded 0x00 e) (unless-ended since (by (e .call))) before
 
--- a setting by what has happened, newest first: the parameter of the last write of its op code that succeeded, if no reset has since,
--- otherwise zero
+-- "01 zeroes every setting", "02 to 06, 09 to 12 and 14 store the parameter octets": a setting by what has happened, newest first, is the
+-- parameter of the last write of its op code that succeeded, if no reset has since, otherwise zero
 unfoldable pub setting-by : ℕ → List Event → List ℕ
-setting-by o [] = zero-setting (row o) (row o .act)
+setting-by o [] = zero-setting (op-code o)
 setting-by o (e ∷ past) =
     let before : List ℕ = setting-by o past in
-    cond (succeeded 1 e) (zero-setting (row o) (row o .act)) (cond (succeeded o e) (parameter (e .call)) before)
+    cond (succeeded 0x01 e) (zero-setting (op-code o)) (cond (succeeded o e) (parameter (e .call)) before)
 
 -- ---- what a call may change, and who may write
 
--- a client whose next write is answered, whatever it writes
-pub record Heard (m : Machine) (c : ℕ) : Type 0 where
+-- a client whose next write is answered, whatever it writes: "A write is judged in this order: 10, 17, 18, 19, 20"
+pub record Heard (k : Console) (c : ℕ) : Type 0 where
   pub small : c ≤ 3
-  pub joined : is-connected m c ≡ true
-  pub shown : is-indicating m c ≡ true
-  pub clear : someone (m .awaited) ≡ false
+  pub joined : is-connected k c ≡ true
+  pub shown : is-indicating k c ≡ true
+  pub clear : someone (k .awaited) ≡ false
 
 -- "10 to 22 leave the state unchanged."
-pub record Unchanged (m : Machine) (x : Answer Reply × Machine) : Type 0 where
+pub record Unchanged (k : Console) (x : Answer Sent × Console) : Type 0 where
   pub at-least : 10 ≤ refusal-of (x .0)
   pub at-most : refusal-of (x .0) ≤ 22
   pub no-response : response-of (x .0) ≡ []
   pub no-status : status-of (x .0) ≡ []
-  pub same : x .1 ≡ m
+  pub same : x .1 ≡ k
 
--- a call by a client that does not hold control: settings, mode and what was fixed at opening stay. The holder stays, but that a 00 that
--- succeeds gives control to its client where nobody had it. (A disconnect of such a client changes who is connected, its indications and
--- its awaited response, and nothing else.)
-pub record Spared (m : Machine) (c : ℕ) (n : Machine) : Type 0 where
+-- a machine before and after a call by a client that does not hold control: settings, mode and what was fixed at opening stay. The holder
+-- stays, but that a 00 that succeeds gives control to its client where nobody had it: "not the holder (but for 00), 05". (A disconnect of such
+-- a client changes who is connected, its indications and its awaited response, and nothing else.)
+pub record Spared (m : Machine) (w : Who) (n : Machine) : Type 0 where
   pub same-settings : n .settings ≡ m .settings
   pub same-mode : n .mode ≡ m .mode
-  pub same-targets : n .feature ≡ m .feature
-  pub same-ranges : n .ranges ≡ m .ranges
-  pub holder-or-new : (n .holder ≡ m .holder) ⊎ ((m .holder ≡ Nobody) × (n .holder ≡ Client c))
+  pub same-setup : n .setup ≡ m .setup
+  pub holder-or-new : (n .holder ≡ m .holder) ⊎ ((m .holder ≡ Nobody) × (n .holder ≡ w))

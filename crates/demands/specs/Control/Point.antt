@@ -4,10 +4,9 @@ use mathlib.Core.Path.{_≡_}
 use mathlib.Core.Bool.{Bool}
 use mathlib.Core.List.{List, [], _∷_}
 use Rattle.record.specs.Answer.{Answer, refused, given}
-use Rattle.codes.specs.declared.ranges.Ranges.{Ranges}
-use Rattle.machine.specs.declared.machine.Machine.{Machine}
-use Rattle.console.specs.Control.Replies.{Reply}
-use Rattle.console.specs.Control.Calls.{opened, connects, disconnects, indicates, confirms, writes}
+use Rattle.service.specs.declared.control.Console.{Console}
+use Rattle.service.specs.Control.Replies.{Sent, sent}
+use Rattle.service.specs.Control.Calls.{Opening, opened, connects, disconnects, indicates, confirms, writes}
 
 -- "Calls: connect, disconnect, indications on and off, write, confirm."
 pub data Call : Type 0 where
@@ -15,39 +14,42 @@ pub data Call : Type 0 where
   indicate : ℕ → Bool → Call
   write : ℕ → List ℕ → Call
 
--- a control point with states S
+-- a control point with states S: "A machine is opened with a Feature value and its ranges." "Replies come back by value."
 pub record Point (S : Type 0) : Type 0 where
-  pub opening : List ℕ → Ranges → Answer S
-  pub connecting : S → ℕ → Answer Reply × S
-  pub disconnecting : S → ℕ → Answer Reply × S
-  pub indicating : S → ℕ → Bool → Answer Reply × S
-  pub confirming : S → ℕ → Answer Reply × S
-  pub writing : S → ℕ → List ℕ → Answer Reply × S
+  pub opening : Opening → Answer S
+  pub calling : S → Call → Answer Sent × S
 
 -- the service's own
-abbrev pub service : Point Machine
-service = record { opening = opened; connecting = connects; disconnecting = disconnects; indicating = indicates; confirming = confirms; writing = writes }
+abbrev pub step : Console → Call → Answer Sent × Console
+step k (connect c) = connects k c
+step k (disconnect c) = disconnects k c
+step k (confirm c) = confirms k c
+step k (indicate c on) = indicates k c on
+step k (write c s) = writes k c s
+
+abbrev pub service : Point Console
+service = record { opening = opened; calling = step }
 
 -- a call, and the answer to it
 pub record Event : Type 0 where
   pub call : Call
-  pub answer : Answer Reply
+  pub answer : Answer Sent
 
-module _ {S : Type 0} (p : Point S) where
-  abbrev pub step : S → Call → Answer Reply × S
-  step s (connect c) = p .connecting s c
-  step s (disconnect c) = p .disconnecting s c
-  step s (confirm c) = p .confirming s c
-  step s (indicate c on) = p .indicating s c on
-  step s (write c octets) = p .writing s c octets
+abbrev pub event : Call → Answer Sent → Event
+event q a = record { call = q; answer = a }
 
-  -- what has happened, the newest first, and the state after the calls of a list, from a state to which `past` has led
-  unfoldable pub run : S → List Event → List Call → List Event × S
-  run s past [] = (past, s)
-  run s past (k ∷ ks) = run (step s k .1) (record { call = k; answer = step s k .0 } ∷ past) ks
+-- the newest answer, where the newest event stands first
+abbrev pub latest : List Event → Answer Sent
+latest [] = sent [] []
+latest (e ∷ past) = e .answer
+
+-- what has happened, the newest first, and the state after the calls of a list, from a state to which `past` has led
+unfoldable pub run : {S : Type 0} → Point S → S → List Event → List Call → List Event × S
+run p x past [] = (past, x)
+run p x past (q ∷ qs) = run p (p .calling x q .1) (event q (p .calling x q .0) ∷ past) qs
 
 -- it refuses to open what the service refuses; and from any other opening, each sequence of calls has the answers that it has from the service
 pub record Answers {S : Type 0} (p : Point S) : Type 0 where
-  pub refuses-alike : (s : List ℕ) (r : Ranges) (n : ℕ) → opened s r ≡ refused n → p .opening s r ≡ refused n
-  pub answers-alike : (s : List ℕ) (r : Ranges) (m : Machine) → opened s r ≡ given m →
-      (x : S) × (p .opening s r ≡ given x) × ((ks : List Call) → run p x [] ks .0 ≡ run service m [] ks .0)
+  pub refuses-alike : (o : Opening) (n : ℕ) → opened o ≡ refused n → p .opening o ≡ refused n
+  pub answers-alike : (o : Opening) (k : Console) → opened o ≡ given k →
+      (x : S) × (p .opening o ≡ given x) × ((qs : List Call) → run p x [] qs .0 ≡ run service k [] qs .0)
