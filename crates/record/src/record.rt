@@ -6,7 +6,7 @@ pub struct Inclination(pub i16);
 // In tenths of a degree. "These two are never taken for each other."
 pub struct RampAngle(pub i16);
 
-// "Slope is inclination s16, then ramp angle s16."
+// "Slope is inclination s16, .. then ramp angle s16, .."
 pub struct Slope {
     pub inclination: Inclination,
     pub ramp_angle: RampAngle,

@@ -72,7 +72,7 @@ fn print_whole(r: Record) {
     print_either(well_formed(r), b" formed=yes", b" formed=no");
 }
 
-// An answer; "each answer says whether held groups were dropped unused".
+// An answer; "Each answer says whether held groups were dropped unused".
 fn print_collected(answer: Collected) {
     let dropped = match answer {
         Collected::Waiting { dropped } => {

@@ -101,7 +101,7 @@ module _ (k : Console) (s : Sound k) (c : ℕ) (h : c ≤ 3) (past : List Event)
   unfolding run
   comes-back = comes (disconnects k c .1) c h (goes k c h s)
 
-  -- "after disconnect and connect and turning indications on a client can write again unless another client's response awaits"
+  -- after disconnect and connect and turning indications on, a client can write again unless another client's response awaits
   pub back-again : someone (without (k .awaited) c) ≡ false → Heard (run service k past (back c) .1) c
   back-again f = record { small = h; joined = comes-back .joined; shown = comes-back .shown; clear = rw (comes-back .waits) f }
 

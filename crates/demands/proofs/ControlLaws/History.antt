@@ -1,5 +1,5 @@
--- "The holder printed after any such sequence is the one that the history says: the last client whose 00 succeeded, if it has had no
--- successful reset and no disconnect since, otherwise nobody."
+-- The holder after any sequence of calls is the one that the history says: the last client whose 00 succeeded, if it has had no successful
+-- reset and no disconnect since, otherwise nobody.
 use Prim.Native.Nat.{ℕ, _≤_}
 use mathlib.Core.Path.{_≡_, refl, sym, ap, _∙_}
 use mathlib.Core.Bool.{Bool, true, false, cond, _&&_}

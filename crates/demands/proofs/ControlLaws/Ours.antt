@@ -86,7 +86,7 @@ pub ours-to-holder : {k : Console} {c o : ℕ} {p : List ℕ} {x : Answer Sent �
     result-in (x .0) ≡ result-number Success → k .machine .holder ≡ Client c
 ours-to-holder {k} {c} {o} {p} d t h = granted-to-holder k c o p t (rw (steps-alike d) at h)
 
--- ---- "control answers are those of the service": whoever answers as the contracts of the code say
+-- ---- "control point answers and status octets are those of Fitness Machine Service 1.0": whoever answers as the contracts of the code say
 
 pub record ByContract (p : Point Console) : Type 0 where
   pub opens : (o : Opening) → DidOpen o (p .opening o)

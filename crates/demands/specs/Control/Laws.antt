@@ -122,8 +122,8 @@ abbrev pub unless-ended : List Event → Who → Who
 unless-ended since Nobody = Nobody
 unless-ended since (Client c) = cond (any (ends c) since) Nobody (Client c)
 
--- "00 gives control": the holder by what has happened, newest first, with what came after it: "the last client whose 00 succeeded, if it has
--- had no successful reset and no disconnect since, otherwise nobody"
+-- "00 gives control": the holder by what has happened, newest first, with what came after it: the last client whose 00 succeeded, if it has
+-- had no successful reset and no disconnect since, otherwise nobody
 unfoldable pub holder-by : List Event → List Event → Who
 holder-by [] since = Nobody
 holder-by (e ∷ past) since = let before : Who = holder-by past (e ∷ since) in cond (succeeded 0x00 e) (unless-ended since (by (e .call))) before

@@ -1,4 +1,5 @@
--- "control answers are those of the service": a predicate on any control point, by its replies to any sequence of calls.
+-- "control point answers and status octets are those of Fitness Machine Service 1.0": a predicate on any control point, by its replies to any
+-- sequence of calls.
 use Prim.Native.Nat.{ℕ}
 use mathlib.Core.Path.{_≡_}
 use mathlib.Core.Bool.{Bool}
