@@ -23,7 +23,7 @@ metabolic equivalent, elapsed, remaining, power, belt force and power output, us
 TARGETS = """speed, inclination, resistance, power, heart rate, energy, steps, strides, distance, training time, time in two heart rate zones,
 time in three heart rate zones, time in five heart rate zones, bike simulation, wheel circumference, spin down, cadence"""
 
-# "Op codes and parameters", from 00 on; 13, spin down, "is answered 'not supported'".
+# "Op codes and parameters", from 00 on, with spin down in the place of 13, which they leave out.
 OP_CODES = """request control; reset; speed u16; inclination s16; resistance u8; power s16; heart rate u8; start or resume;
 stop (1) or pause (2) u8; energy u16; steps u16; strides u16; distance u24; time u16; two zones, a u16 each; three zones, a u16 each;
 five zones, a u16 each; wind s16, grade s16, rolling u8, drag u8; wheel u16; spin down; cadence u16"""
@@ -151,25 +151,28 @@ def target_bit(op):
     """"00, 01, 07, 08 are always supported; 02 to 06 need target bits 0 to 4, 09 to 12 need 5 to 14, 14 needs 16." """
     if op in (0x00, 0x01, 0x07, 0x08):
         return "always supported"
-    if op == 0x13:
-        return "never supported"
     return {0x14: 16}.get(op, op - 2 if op <= 0x06 else op - 4)
 
 
 def status(op, octets):
     """"01 gives 01; 07 gives 04; 08 gives 02 and its parameter; 02 to 06 give op code plus 3, 09 to 12 op code plus 1, 14 gives 15 .. 00 gives none." """
-    if op in (0x00, 0x13):
+    if op == 0x00:
         return "none"
     first = {0x01: 0x01, 0x07: 0x04, 0x08: 0x02, 0x14: 0x15}.get(op, op + 3 if op <= 0x06 else op + 1)
     return "%02X" % first + (" and the parameter" if octets else "")
 
 
+def op_code(op, name):
+    """The cells behind an op code's name. Of spin down's, document 01 says no more than that it "is answered 'not supported'": "result 02"."""
+    if op == 0x13:
+        return "-", "-", "-", "not supported", "80 13 02", "-"
+    widths = parameter(name)
+    octets = sum(OCTETS[width] for width in widths)
+    return ", ".join(widths) or "none", octets, RANGES.get(op, "none"), target_bit(op), "80 %02X and the result" % op, status(op, octets)
+
+
 def op_codes():
-    rows = []
-    for op, name in enumerate(words(OP_CODES, ";")):
-        widths = parameter(name)
-        octets = sum(OCTETS[width] for width in widths)
-        rows.append(("%02X" % op, bare(name), ", ".join(widths) or "none", octets, RANGES.get(op, "none"), target_bit(op), "80 %02X and the result" % op, status(op, octets)))
+    rows = [("%02X" % op, bare(name)) + op_code(op, name) for op, name in enumerate(words(OP_CODES, ";"))]
     table(["op code", "name", "parameter", "octets", "range", "target bit", "response", "status where it succeeds"], rows)
 
 

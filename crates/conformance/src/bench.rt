@@ -1,26 +1,21 @@
-// A machine under test, and a client, number 0, that writes to it and confirms each response.
-use codes::ranges::HeartRateRange;
-use codes::ranges::Ranges;
-use codes::ranges::SignedRange;
-use codes::ranges::SpeedRange;
-use console::control::confirm;
-use console::control::connect;
-use console::control::indicate;
-use console::control::open;
-use console::control::write;
-use machine::machine::Machine;
-use machine::octets::Octets;
+// A console under test, and a client, number 0, that writes to it and confirms each response.
 use output::first;
 use output::print;
 use output::print_octets;
 use record::octets::u8_at;
+use service::control::Console;
+use service::control::counted::Counted;
+use service::control::ranges::HeartRateRange;
+use service::control::ranges::Ranges;
+use service::control::ranges::SignedRange;
+use service::control::ranges::SpeedRange;
 
 // Every named bit of the features and of the target settings.
 const FEATURE: [u8; 8] = [0xFF, 0xFF, 0x01, 0x00, 0xFF, 0xFF, 0x01, 0x00];
 
-// A test case that is being run: the machine, and whether each answer so far was the one expected.
+// A test case that is being run: the console, and whether each answer so far was the one expected.
 pub(crate) struct Bench {
-    machine: Machine,
+    console: Console,
     passes: bool,
 }
 
@@ -51,73 +46,77 @@ fn ranges() -> Ranges {
 }
 
 // Opened, the client connected, with indications on.
-pub(crate) fn ready() -> Machine {
-    let opened = open(&FEATURE, ranges()).machine;
-    let connected = connect(opened, 0).machine;
-    indicate(connected, 0, true).machine
+pub(crate) fn ready() -> Console {
+    let opened = Console::open(&FEATURE, ranges()).console;
+    let connected = opened.connect(0).console;
+    connected.indicate(0, true).console
 }
 
 // After a write and its confirmation.
-fn after(machine: Machine, sent: &[u8]) -> Machine {
-    let next = write(machine, 0, sent).machine;
-    confirm(next, 0).machine
+fn after(console: Console, sent: &[u8]) -> Console {
+    let written = console.write(0, sent).console;
+    written.confirm(0).console
 }
 
 // The client holds control.
-pub(crate) fn holding() -> Machine {
+pub(crate) fn holding() -> Console {
     after(ready(), b"\x00")
 }
 
-pub(crate) fn running() -> Machine {
+pub(crate) fn running() -> Console {
     after(holding(), b"\x07")
 }
 
-pub(crate) fn paused() -> Machine {
+pub(crate) fn paused() -> Console {
     after(running(), b"\x08\x02")
 }
 
-pub(crate) fn begin(case: &[u8], machine: Machine) -> Bench {
+pub(crate) fn begin(case: &[u8], console: Console) -> Bench {
     print(b"FTMS/SR/");
     print(case);
     Bench {
-        machine,
+        console,
         passes: true,
     }
 }
 
-fn print_exchange(sent: &[u8], response: [u8; 3], status: Octets) {
-    let octets = status.octets;
+fn print_counted(counted: Counted) {
+    let octets = counted.octets;
+    print_octets(first(&octets, counted.count as usize));
+}
+
+fn print_exchange(sent: &[u8], response: Counted, status: Counted) {
     print(b" sent");
     print_octets(sent);
     print(b" response");
-    print_octets(&response);
+    print_counted(response);
     print(b" status");
-    print_octets(first(&octets, status.count as usize));
+    print_counted(status);
 }
 
-fn is_response(response: [u8; 3], sent: &[u8], result: u8) -> bool {
+fn is_counted(counted: Counted, expected: &[u8]) -> bool {
+    let octets = counted.octets;
+    check::same(first(&octets, counted.count as usize), expected)
+}
+
+fn is_response(response: Counted, sent: &[u8], result: u8) -> bool {
     let expected = [0x80, u8_at(sent, 0), result];
-    check::same(&response, &expected)
-}
-
-fn is_status(status: Octets, expected: &[u8]) -> bool {
-    let octets = status.octets;
-    check::same(first(&octets, status.count as usize), expected)
+    is_counted(response, &expected)
 }
 
 // Writes, prints what came back, compares it with what is expected, and confirms.
 pub(crate) fn exchange(b: Bench, sent: &[u8], result: u8, status: &[u8]) -> Bench {
-    let machine = b.machine;
-    let written = write(machine, 0, sent);
-    let response = written.response;
-    let said = written.status;
+    let console = b.console;
+    let reply = console.write(0, sent);
+    let response = reply.response;
+    let said = reply.status;
     print_exchange(sent, response, said);
     let responds = is_response(response, sent, result);
-    let tells = is_status(said, status);
-    let next = written.machine;
-    let confirmed = confirm(next, 0).machine;
+    let tells = is_counted(said, status);
+    let written = reply.console;
+    let confirmed = written.confirm(0).console;
     Bench {
-        machine: confirmed,
+        console: confirmed,
         passes: b.passes && responds && tells,
     }
 }
@@ -135,8 +134,10 @@ pub(crate) fn finish(b: Bench, departure: &[u8]) {
 
 // "The characteristic value is 8 octets with RFU bits set to 0", though the machine was opened with every bit set.
 pub(crate) fn run_feature() {
-    let machine = open(b"\xFF\xFF\xFF\xFF\xFF\xFF\xFF\xFF", ranges()).machine;
-    let feature = machine.feature;
+    let opened = Console::open(b"\xFF\xFF\xFF\xFF\xFF\xFF\xFF\xFF", ranges()).console;
+    let machine = opened.machine;
+    let setup = machine.setup;
+    let feature = setup.feature;
     let octets = feature.to_octets();
     print(b"FTMS/SR/CR/BV-01-C read");
     print_octets(&octets);
@@ -147,7 +148,7 @@ pub(crate) fn run_feature() {
     }
 }
 
-pub(crate) fn run(case: &[u8], machine: Machine, sent: &[u8], status: &[u8]) {
-    let b = begin(case, machine);
+pub(crate) fn run(case: &[u8], console: Console, sent: &[u8], status: &[u8]) {
+    let b = begin(case, console);
     finish(exchange(b, sent, 0x01, status), b"");
 }

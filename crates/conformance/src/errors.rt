@@ -4,7 +4,7 @@ use crate::bench::exchange;
 use crate::bench::finish;
 use crate::bench::holding;
 use crate::bench::ready;
-use machine::machine::Machine;
+use service::control::Console;
 
 // Starting a machine that runs.
 fn run_second_start() {
@@ -26,8 +26,8 @@ fn run_second_stop() {
     );
 }
 
-fn run_once(case: &[u8], machine: Machine, sent: &[u8], result: u8) {
-    let b = begin(case, machine);
+fn run_once(case: &[u8], console: Console, sent: &[u8], result: u8) {
+    let b = begin(case, console);
     finish(exchange(b, sent, result, b""), b"");
 }
 

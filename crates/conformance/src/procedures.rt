@@ -6,7 +6,6 @@ use crate::bench::holding;
 use crate::bench::ready;
 use crate::bench::run;
 use crate::bench::running;
-use machine::machine::Machine;
 
 // A write by a client that holds control, to a machine that is stopped.
 fn grant(case: &[u8], sent: &[u8], status: &[u8]) {

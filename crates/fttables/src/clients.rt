@@ -1,21 +1,12 @@
 // The calls of the control point, made step by step as in records.rt: a step gives the number of the refusal, or 0 where there is none.
 use crate::steps::mended;
-use codes::ranges::HeartRateRange;
-use codes::ranges::Ranges;
-use codes::ranges::SignedRange;
-use codes::ranges::SpeedRange;
-use console::control::Outcome;
-use console::control::confirm;
-use console::control::connect;
-use console::control::disconnect;
-use console::control::indicate;
-use console::control::open;
-use console::control::write;
-use machine::machine::Machine;
-use machine::machine::Who;
-use machine::machine::linked;
-use machine::machine::nothing;
 use output::first;
+use service::control::Console;
+use service::control::Outcome;
+use service::control::ranges::HeartRateRange;
+use service::control::ranges::Ranges;
+use service::control::ranges::SignedRange;
+use service::control::ranges::SpeedRange;
 
 // The number of a refusal; 0 where there is none.
 fn number_of(outcome: Outcome) -> u8 {
@@ -52,25 +43,24 @@ fn ranges(least: u8) -> Ranges {
 pub(crate) fn opening(step: u8) -> u8 {
     let octets = [0u8; 8];
     let feature = first(&octets, mended(step, 1, 7, 8) as usize);
-    let outcome = open(feature, ranges(mended(step, 2, 1, 0))).outcome;
+    let outcome = Console::open(feature, ranges(mended(step, 2, 1, 0))).outcome;
     number_of(outcome)
 }
 
-// A machine with a response due to client 0; client 1 is connected with indications off, and no other is connected.
-fn awaiting() -> Machine {
-    linked(
-        nothing(),
-        [true, true, false, false],
-        [true, false, false, false],
-        Who::Client(0),
-        Who::Nobody,
-    )
+// A console with a response due to client 0; client 1 is connected with indications off, and no other is connected.
+fn awaiting() -> Console {
+    let octets = [0u8; 8];
+    let opened = Console::open(&octets, ranges(0)).console;
+    let connected = opened.connect(0).console;
+    let indicated = connected.indicate(0, true).console;
+    let written = indicated.write(0, b"\x00").console;
+    written.connect(1).console
 }
 
 // Connects client 4, then one that is connected, then one that is not.
 pub(crate) fn connecting(step: u8) -> u8 {
     let client = mended(step, 1, 4, mended(step, 2, 1, 2));
-    let outcome = connect(awaiting(), client).outcome;
+    let outcome = awaiting().connect(client).outcome;
     number_of(outcome)
 }
 
@@ -81,36 +71,36 @@ fn client_at(step: u8) -> u8 {
 
 // Disconnects these clients in turn.
 pub(crate) fn disconnecting(step: u8) -> u8 {
-    let outcome = disconnect(awaiting(), client_at(step)).outcome;
+    let outcome = awaiting().disconnect(client_at(step)).outcome;
     number_of(outcome)
 }
 
 // Turns indications on for these clients in turn.
 pub(crate) fn indicating(step: u8) -> u8 {
-    let outcome = indicate(awaiting(), client_at(step), true).outcome;
+    let outcome = awaiting().indicate(client_at(step), true).outcome;
     number_of(outcome)
 }
 
 // Confirms by these clients in turn, and then by the one to whom a response is due.
 pub(crate) fn confirming(step: u8) -> u8 {
     let client = mended(step, 3, client_at(step), 0);
-    let outcome = confirm(awaiting(), client).outcome;
+    let outcome = awaiting().confirm(client).outcome;
     number_of(outcome)
 }
 
-// The machine before a step, and from it on the same after its response is confirmed.
-fn confirmed(step: u8, from: u8) -> Machine {
-    let machine = awaiting();
+// The console before a step, and from it on the same after its response is confirmed.
+fn confirmed(step: u8, from: u8) -> Console {
+    let console = awaiting();
     if step < from {
-        return machine;
+        return console;
     }
-    confirm(machine, 0).machine
+    console.confirm(0).console
 }
 
 // Writes by these clients in turn, with the octets, then the client's indications and then the awaited response put right.
 pub(crate) fn writing(step: u8) -> u8 {
     let client = mended(step, 4, client_at(step), 0);
     let octets = first(b"\x00", mended(step, 3, 0, 1) as usize);
-    let outcome = write(confirmed(step, 5), client, octets).outcome;
+    let outcome = confirmed(step, 5).write(client, octets).outcome;
     number_of(outcome)
 }

@@ -7,16 +7,15 @@ use crate::words::put_close;
 use crate::words::put_comma;
 use crate::words::put_open;
 use crate::words::put_word;
-use codes::op_codes::Bound;
-use codes::op_codes::Need;
-use codes::op_codes::Row;
-use codes::op_codes::row_of;
-use codes::parameters::Parameter;
-use codes::parameters::count;
-use codes::parameters::octets;
-use codes::parameters::width_of;
-use machine::judging::first_result;
 use reference::words::put_width;
+use service::control::judging::WriteResult;
+use service::control::op_codes::Bound;
+use service::control::op_codes::Lookup;
+use service::control::op_codes::Need;
+use service::control::op_codes::OpCode;
+use service::control::op_codes::Status;
+use service::control::op_codes::op_code;
+use service::control::parameters::Parameter;
 use text::text::put_bytes;
 use text::text::put_decimal;
 use text::text::put_hex;
@@ -39,6 +38,7 @@ fn put_name(out: &mut [u8], at: usize, op: u8) -> usize {
 fn place_of(bound: Bound) -> u8 {
     match bound {
         Bound::Free => 0,
+        Bound::OneOrTwo => 0,
         Bound::Speed => 1,
         Bound::Inclination => 2,
         Bound::Resistance => 3,
@@ -59,32 +59,31 @@ fn put_range(out: &mut [u8], at: usize, bound: Bound) -> usize {
 fn put_need(out: &mut [u8], at: usize, need: Need) -> usize {
     match need {
         Need::Always => put_bytes(out, at, b"always supported"),
-        Need::Never => put_bytes(out, at, b"never supported"),
         Need::Bit(bit) => put_decimal(out, at, bit as u32),
     }
 }
 
-// The status octets: the first, and the parameter where there is one.
-fn put_status(out: &mut [u8], at: usize, octets: u8, status: u8) -> usize {
-    if status == 0 {
-        return put_bytes(out, at, b"none");
+// The status octets: the first, and the parameter where it follows.
+fn put_status(out: &mut [u8], at: usize, status: Status) -> usize {
+    match status {
+        Status::Silent => put_bytes(out, at, b"none"),
+        Status::Octet(x) => put_hex(out, at, x),
+        Status::Echo(x) => {
+            let next = put_hex(out, at, x);
+            put_bytes(out, next, b" and the parameter")
+        }
     }
-    let next = put_hex(out, at, status);
-    if octets == 0 {
-        return next;
-    }
-    put_bytes(out, next, b" and the parameter")
 }
 
 // The width of number i of a parameter, behind those that stand from a place on.
 fn put_number(out: &mut [u8], from: usize, at: usize, parameter: Parameter, i: u8) -> usize {
     let next = put_comma(out, from, at);
-    put_width(out, next, width_of(parameter, i))
+    put_width(out, next, parameter.width(i))
 }
 
 // The widths of a parameter's numbers.
 fn put_parameter(out: &mut [u8], at: usize, parameter: Parameter) -> usize {
-    let numbers = count(parameter);
+    let numbers = parameter.count();
     if numbers == 0 {
         return put_bytes(out, at, b"none");
     }
@@ -99,14 +98,14 @@ fn put_parameter(out: &mut [u8], at: usize, parameter: Parameter) -> usize {
 fn put_octets(out: &mut [u8], at: usize, parameter: Parameter) -> usize {
     let next = put_parameter(out, at, parameter);
     let after = put_bar(out, next);
-    put_decimal(out, after, octets(parameter) as u32)
+    put_decimal(out, after, parameter.length() as u32)
 }
 
 // The parameter, its octets, its range, and the target bit.
-fn put_needs(out: &mut [u8], at: usize, row: Row) -> usize {
-    let parameter = row.0;
-    let need = row.1;
-    let bound = row.2;
+fn put_needs(out: &mut [u8], at: usize, code: OpCode) -> usize {
+    let parameter = code.parameter;
+    let need = code.need;
+    let bound = code.bound;
     let a = put_octets(out, at, parameter);
     let b = put_bar(out, a);
     let c = put_range(out, b, bound);
@@ -114,15 +113,36 @@ fn put_needs(out: &mut [u8], at: usize, row: Row) -> usize {
     put_need(out, d, need)
 }
 
-// The response and the status octets.
-fn put_answers(out: &mut [u8], at: usize, op: u8, row: Row) -> usize {
-    let parameter = row.0;
-    let status = row.3;
-    let length = octets(parameter);
+// The next cell: the response up to its result.
+fn put_response(out: &mut [u8], at: usize, op: u8) -> usize {
     let a = put_bytes(out, at, b" | 80 ");
     let b = put_hex(out, a, op);
-    let c = put_bytes(out, b, b" and the result | ");
-    put_status(out, c, length, status)
+    put_bytes(out, b, b" ")
+}
+
+// The cells of an op code that the table has.
+fn put_known(out: &mut [u8], at: usize, op: u8, code: OpCode) -> usize {
+    let status = code.status;
+    let a = put_needs(out, at, code);
+    let b = put_response(out, a, op);
+    let c = put_bytes(out, b, b"and the result | ");
+    put_status(out, c, status)
+}
+
+// The cells of an op code that the table does not have: a dash for what is not said of it, and the one result that it gets.
+fn put_unknown(out: &mut [u8], at: usize, op: u8) -> usize {
+    let result = WriteResult::NotSupported;
+    let a = put_bytes(out, at, b"- | - | - | not supported");
+    let b = put_response(out, a, op);
+    let c = put_hex(out, b, result.number());
+    put_bytes(out, c, b" | -")
+}
+
+fn put_cells(out: &mut [u8], at: usize, op: u8) -> usize {
+    match op_code(op) {
+        Lookup::Known(code) => put_known(out, at, op, code),
+        Lookup::Unknown => put_unknown(out, at, op),
+    }
 }
 
 // The first cells: the op code, and what it is for.
@@ -135,11 +155,9 @@ fn put_op(out: &mut [u8], at: usize, op: u8) -> usize {
 }
 
 fn put_op_code(out: &mut [u8], at: usize, op: u8) -> usize {
-    let row = row_of(op);
     let a = put_op(out, at, op);
-    let b = put_needs(out, a, row);
-    let c = put_answers(out, b, op, row);
-    put_close(out, c)
+    let b = put_cells(out, a, op);
+    put_close(out, b)
 }
 
 fn put_op_codes(out: &mut [u8], at: usize) -> usize {
@@ -154,10 +172,22 @@ fn put_op_codes(out: &mut [u8], at: usize) -> usize {
     next
 }
 
-// The line of a result, with when it is given, one of some words.
-fn put_result(out: &mut [u8], at: usize, result: u8, which: u8) -> usize {
+// The results in the order in which they are judged.
+fn result_at(which: u8) -> WriteResult {
+    match which {
+        0 => WriteResult::NotSupported,
+        1 => WriteResult::ControlNotPermitted,
+        2 => WriteResult::InvalidParameter,
+        3 => WriteResult::OperationFailed,
+        _ => WriteResult::Success,
+    }
+}
+
+// The line of a result, with when it is given.
+fn put_result(out: &mut [u8], at: usize, which: u8) -> usize {
+    let result = result_at(which);
     let a = put_open(out, at);
-    let b = put_hex(out, a, result);
+    let b = put_hex(out, a, result.number());
     let c = put_bar(out, b);
     let d = put_word(
         out,
@@ -168,16 +198,14 @@ fn put_result(out: &mut [u8], at: usize, result: u8, which: u8) -> usize {
     put_close(out, d)
 }
 
-// The results in the order in which they are judged: each is what is given where nothing before it is amiss.
 fn put_results(out: &mut [u8], at: usize) -> usize {
     let mut next = put_bytes(
         out,
         at,
         b"\n## Results\n\nThe first that applies:\n\n| result | given when |\n|---|---|\n",
     );
-    for i in 0..RESULTS {
-        let result = first_result(0 < i, 1 < i, 2 < i, i < 4);
-        next = put_result(out, next, result, i);
+    for which in 0..RESULTS {
+        next = put_result(out, next, which);
     }
     next
 }

@@ -11,6 +11,7 @@ use record::notification::Part;
 use record::notification::PartAnswer;
 use record::notification::part_of;
 use record::split::LEAST_PAYLOAD;
+use record::split::MOST_PARTS;
 use record::split::SplitAnswer;
 use record::split::split_numbers;
 use text::text::LF;
@@ -18,9 +19,6 @@ use text::text::put_byte;
 use text::text::put_bytes;
 use text::text::put_decimal;
 use text::text::put_hex;
-
-// No record has more parts.
-const MOST_PARTS: u8 = 16;
 
 const SPACE: u8 = 32;
 
@@ -118,7 +116,7 @@ pub(crate) fn put_parts(out: &mut [u8], at: usize, kind: u8) -> usize {
         at,
         b"\n## Parts at payload 20\n\n| part | flags | octets | bits |\n|---|---|---|---|\n",
     );
-    for part in 0..MOST_PARTS {
+    for part in 0..MOST_PARTS as u8 {
         next = put_part(out, next, kind, part);
     }
     put_byte(out, next, LF)

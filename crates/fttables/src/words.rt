@@ -1,8 +1,7 @@
 // Words in tables.
+use text::text::LF;
 use text::text::put_byte;
 use text::text::put_bytes;
-
-const LF: u8 = 10;
 
 // The line after an octet.
 fn line_after(line: u8, x: u8) -> u8 {

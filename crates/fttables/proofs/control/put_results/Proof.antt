@@ -7,10 +7,10 @@ use Rattle.fttables.proofs.control.put_results.Statement.{statement}
 use Rattle.fttables.proofs.control.put_results.Tie as tie
 
 abbrev Inv-loop : tie.InvT-loop
-Inv-loop out₀ at next₀ i₀ out next i = length out ≡ length out₀
+Inv-loop out₀ at next₀ which₀ out next which = length out ≡ length out₀
 
 abbrev μ-loop : tie.MeasureT-loop
-μ-loop out₀ at next₀ i₀ out next i = 5 - i
+μ-loop out₀ at next₀ which₀ out next which = 5 - which
 
 pub put-results-spec : {M : Type 1} → statement M
 put-results-spec =
@@ -21,7 +21,6 @@ put-results-spec =
     (λ c. search needs)
     (λ c κs. search needs)
     (λ c. search needs)
-    (λ c κs. search needs)
     (λ c κs. search needs)
     (λ c. search needs)
     (λ c. search needs)
