@@ -1,4 +1,5 @@
-// The calls of the control point, made step by step as in records.rt: a step gives the number of the refusal, or 0 where there is none.
+// The calls of the control point, made step by step as in records.rt: a step gives the number of the refusal, or 0 where there is none; and the
+// results of writes.
 use crate::steps::mended;
 use output::first;
 use service::control::Console;
@@ -103,4 +104,24 @@ pub(crate) fn writing(step: u8) -> u8 {
     let octets = first(b"\x00", mended(step, 3, 0, 1) as usize);
     let outcome = confirmed(step, 5).write(client, octets).outcome;
     number_of(outcome)
+}
+
+// A console whose client 0 holds control and where client 1 can write too; its machine runs before a step, and from it on is stopped.
+fn halted(step: u8, from: u8) -> Console {
+    let holding = confirmed(from, from).indicate(1, true).console;
+    if step < from {
+        let started = holding.write(0, b"\x07").console;
+        return started.confirm(0).console;
+    }
+    holding
+}
+
+// The result of a write in which the op code, the client, the length and what the machine does are put right in turn.
+pub(crate) fn resulting(step: u8) -> u8 {
+    let octets = [mended(step, 1, 0x13, 0x07), 0];
+    let client = mended(step, 2, 1, 0);
+    let sent = first(&octets, mended(step, 3, 2, 1) as usize);
+    let response = halted(step, 4).write(client, sent).response;
+    let said = response.octets;
+    said[2]
 }

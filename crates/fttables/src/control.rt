@@ -1,4 +1,5 @@
 // The page of the control point.
+use crate::clients::resulting;
 use crate::feature::put_feature;
 use crate::orders::put_orders;
 use crate::refusals::put_refusals;
@@ -172,22 +173,10 @@ fn put_op_codes(out: &mut [u8], at: usize) -> usize {
     next
 }
 
-// The results in the order in which they are judged.
-fn result_at(which: u8) -> WriteResult {
-    match which {
-        0 => WriteResult::NotSupported,
-        1 => WriteResult::ControlNotPermitted,
-        2 => WriteResult::InvalidParameter,
-        3 => WriteResult::OperationFailed,
-        _ => WriteResult::Success,
-    }
-}
-
-// The line of a result, with when it is given.
+// The line of a result, as a write with less and less wrong is answered, with when it is given.
 fn put_result(out: &mut [u8], at: usize, which: u8) -> usize {
-    let result = result_at(which);
     let a = put_open(out, at);
-    let b = put_hex(out, a, result.number());
+    let b = put_hex(out, a, resulting(which));
     let c = put_bar(out, b);
     let d = put_word(
         out,
