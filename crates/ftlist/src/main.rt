@@ -1,86 +1,93 @@
-// Lists a capture: from standard input to standard output, a notification's lines at a time.
+// Lists a capture: from standard input to standard output, a step's lines at a time. Where reading or writing fails, it says so on standard error.
 use libc::STDIN_FILENO;
 use libc::STDOUT_FILENO;
-use listing::capture::put_notification;
-use listing::capture::start;
-use listing::lines::put_refused;
-use output::first;
-use record::groups::is_known;
-use record::octets::u16_at;
-use record::refusal::Refusal;
+use listing::lines::LONGEST_LINES;
+use listing::walk::LONGEST_CAPTURE;
+use listing::walk::begin;
+use listing::walk::step;
+ghost use Prim.Native.Nat.{_+_, _≤_};
+ghost use lib.ListN.{length};
+ghost use Rattle.io.specs.Counts.{Counts};
 
-// No notification's lines are longer.
-const LINES: usize = 1024;
+// The longest capture that is listed, and one octet: by it the listing sees that there is more.
+const ROOM: usize = LONGEST_CAPTURE + 1;
 
-// The octets of a notification's length.
-const LENGTH_OCTETS: usize = 2;
-
-// Writes the first octets of a buffer; whether the output took them all.
-fn show(lines: &[u8], length: usize) -> bool {
-    io::write_all(STDOUT_FILENO, first(lines, length))
+// How many octets were read, and whether a read failed.
+struct Input {
+    length: usize,
+    failed: bool,
 }
 
-fn show_refused(refusal: Refusal) {
-    let mut lines = [0u8; LINES];
-    let length = put_refused(&mut lines, 0, refusal);
-    show(&lines, length);
-}
-
-// The lines of each notification behind the kind, until the output takes no more.
-fn show_notifications(kind: u8, capture: &[u8]) {
-    let mut space = [0u8; LINES];
-    let lines: &mut [u8] = &mut space;
-    let mut listing = start(kind);
-    let mut i = 1;
-    while i < capture.len() {
-        let size = u16_at(capture, i) as usize;
-        let left = capture.len() - i;
-        if left < LENGTH_OCTETS + size {
-            show_refused(Refusal::CaptureCutShort);
-            return;
-        }
-        let from = i + LENGTH_OCTETS;
-        let to = from + size;
-        let noted = put_notification(lines, 0, listing, &capture[from..to]);
-        if !show(lines, noted.next) {
-            return;
-        }
-        listing = noted.listing;
-        i = to;
+// One read into a buffer, behind the octets that it has: none come where the input has ended or the read fails.
+fn read_some(buffer: &mut [u8], at: usize) -> Input
+    requires { ⌜ at ≤ length (now buffer) ⌝ }
+    ensures { λ r. ⌜ at + r .length ≤ length (now (buffer .exit)) ⌝ }
+{
+    let rest = &mut buffer[at..];
+    let got = libc::read(STDIN_FILENO, rest);
+    Input {
+        length: io::count(got, rest),
+        failed: got < 0,
     }
 }
 
-// A capture that is not too long: 11 first.
+// Reads until the input ends, a read fails or the buffer is full.
+fn read_input(buffer: &mut [u8]) -> Input
+    ensures { λ r. ⌜ Counts (r .length) (now (buffer .exit)) ⌝ }
+{
+    let mut filled = 0;
+    while filled < buffer.len() {
+        let more = read_some(buffer, filled);
+        if more.length == 0 {
+            return Input {
+                length: filled,
+                failed: more.failed,
+            };
+        }
+        filled += more.length;
+    }
+    Input {
+        length: filled,
+        failed: false,
+    }
+}
+
+// Writes lines; whether the output took them all. Where it did not, that is said.
+fn show(lines: &[u8]) -> bool {
+    let taken = io::write_all(STDOUT_FILENO, lines);
+    if !taken {
+        os::fail(b"ftlist: standard output");
+    }
+    taken
+}
+
+// Lists a capture, until the listing ends or the output takes no more.
 fn show_listing(capture: &[u8]) {
-    if capture.len() == 0 {
-        show_refused(Refusal::UnknownKind);
+    let mut space = [0u8; LONGEST_LINES];
+    let lines: &mut [u8] = &mut space;
+    let mut walk = begin();
+    while !walk.ended {
+        let stepped = step(lines, 0, walk, capture);
+        let length = stepped.next;
+        if !show(&lines[..length]) {
+            return;
+        }
+        walk = stepped.walk;
+    }
+}
+
+// Lists the input; nothing of it, where it cannot be read.
+fn list_input(buffer: &mut [u8]) {
+    let input = read_input(buffer);
+    if input.failed {
+        os::fail(b"ftlist: standard input");
         return;
     }
-    let kind = capture[0];
-    if is_known(kind) {
-        show_notifications(kind, capture);
-    } else {
-        show_refused(Refusal::UnknownKind);
-    }
-}
-
-// Whether there is input behind a capture that fills its buffer.
-fn is_more() -> bool {
-    let mut next = [0u8; 1];
-    io::read_full(STDIN_FILENO, &mut next) == 1
-}
-
-// Reads a capture into a buffer of the longest that is listed, and lists it: 36 first.
-fn list_input(capture: &mut [u8]) {
-    let length = io::read_full(STDIN_FILENO, capture);
-    if length == capture.len() && is_more() {
-        show_refused(Refusal::CaptureTooLong);
-    } else {
-        show_listing(first(capture, length));
-    }
+    let length = input.length;
+    show_listing(&buffer[..length]);
 }
 
 fn main() {
-    let mut capture = io::large_buffer();
-    list_input(&mut capture);
+    let mut buffer = [0u8; ROOM];
+    list_input(&mut buffer);
 }

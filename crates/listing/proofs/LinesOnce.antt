@@ -9,6 +9,6 @@ pub lines-once :
     (Once put-record.Post × LeftOnce put-record.Post (λ κs s. now (s .0))) ×
     (Once put-refused.Post × LeftOnce put-refused.Post (λ κs s. now (s .0)))
 lines-once = (
-  (λ κs a x y s t p q. wrote-once _ _ _ _ _ _ _ p q .0, λ κs a x y s t p q. wrote-once _ _ _ _ _ _ _ p q .1),
-  (λ κs a x y s t p q. wrote-once _ _ _ _ _ _ _ p q .0, λ κs a x y s t p q. wrote-once _ _ _ _ _ _ _ p q .1),
+  (λ κs a x y s t p q. wrote-once _ _ _ _ _ _ _ (p .0) (q .0) .0, λ κs a x y s t p q. wrote-once _ _ _ _ _ _ _ (p .0) (q .0) .1),
+  (λ κs a x y s t p q. wrote-once _ _ _ _ _ _ _ (p .0) (q .0) .0, λ κs a x y s t p q. wrote-once _ _ _ _ _ _ _ (p .0) (q .0) .1),
 )

@@ -8,8 +8,8 @@ use Rattle.listing.specs.Listing.{meant}
 use Rattle.text.proofs.Once.{wrote-once}
 use Rattle.listing.proofs.capture.list.Reads as list
 use Rattle.listing.proofs.capture.list_length.Reads as list-length
-use Rattle.listing.proofs.capture.put_notification.Reads as put-notification
-use Rattle.listing.proofs.capture.start.Reads as start
+use Rattle.listing.proofs.walk.begin.Reads as begin
+use Rattle.listing.proofs.walk.step.Reads as step
 
 list-variant : (x : ListAnswer) → Variant Listed Refused x
 list-variant (Listed n) = with-value n refl
@@ -24,13 +24,13 @@ list-once = (λ κs a x y s t p q. list-meant x y (p .0 ∙ sym (q .0)), λ κs 
 pub length-once : Once list-length.Post
 length-once κs a x y s t p q = p ∙ sym q
 
-pub start-once : Once start.Post
-start-once κs a x y s t p q = p ∙ sym q
+pub begin-once : Once begin.Post
+begin-once κs a x y s t p q = p ∙ sym q
 
-pub notification-once : Once put-notification.Post × LeftOnce put-notification.Post (λ κs s. now (s .0))
-notification-once = (
+pub step-once : Once step.Post × LeftOnce step.Post (λ κs s. now (s .0))
+step-once = (
   λ κs a x y s t p q.
-      let n = wrote-once _ _ _ _ _ _ _ (p .0) (q .0) .0 in
-      let l : x .listing ≡ y .listing = p .1 ∙ sym (q .1) in λ i. record { next = n i; listing = l i },
-  λ κs a x y s t p q. wrote-once _ _ _ _ _ _ _ (p .0) (q .0) .1,
+      let n = wrote-once _ _ _ _ _ _ _ (p .lines) (q .lines) .0 in
+      let w : x .walk ≡ y .walk = p .walk ∙ sym (q .walk) in λ i. record { next = n i; walk = w i },
+  λ κs a x y s t p q. wrote-once _ _ _ _ _ _ _ (p .lines) (q .lines) .1,
 )

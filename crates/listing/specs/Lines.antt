@@ -44,3 +44,13 @@ record-lines number r =
 -- "prints `refused=`" and the table's number
 unfoldable pub refused-line : ℕ → List ℕ
 refused-line n = line (ascii "refused=") (decimal n)
+
+-- the room for a record's first four lines, for its fields' lines, and for the lines of one notification: a record's, or a refusal's
+abbrev pub head-room : ℕ
+head-room = 73
+
+abbrev pub fields-room : ℕ
+fields-room = 640
+
+abbrev pub longest : ℕ
+longest = 1024

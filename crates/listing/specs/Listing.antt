@@ -12,7 +12,7 @@ use Rattle.record.specs.Refusal.{number-of}
 use Rattle.service.specs.declared.collector.Collection.{Collection}
 use Rattle.service.specs.declared.collector.Told.the-variants.{Open}
 use Rattle.service.specs.Collector.{Said, waiting, handed, refused, empty, collect}
-use Rattle.listing.specs.declared.capture.Listing.{Listing}
+use Rattle.listing.specs.declared.walk.Listing.{Listing}
 use Rattle.listing.specs.declared.capture.ListAnswer.{ListAnswer}
 use Rattle.listing.specs.declared.capture.ListAnswer.the-variants.{Listed, Refused}
 use Rattle.listing.specs.Lines.{record-lines, refused-line}

@@ -18,13 +18,16 @@ use text::text::put_byte;
 use text::text::put_decimal;
 use text::text::put_line;
 ghost use mathlib.Core.Path.{_≡_};
-ghost use Prim.Native.Nat.{_%_, _^_};
-ghost use lib.ListN.{getD};
+ghost use Prim.Native.Nat.{_≤_, _%_, _^_};
+ghost use lib.ListN.{length, getD};
 ghost use Rattle.record.specs.Layout.{layout};
 ghost use Rattle.record.specs.Octets.{signed};
 ghost use Rattle.record.specs.Refusal.{number-of};
-ghost use Rattle.listing.specs.Lines.{value, field-line, field-lines, head-lines, record-lines, refused-line};
+ghost use Rattle.listing.specs.Lines.{value, field-line, field-lines, head-lines, record-lines, refused-line, head-room, fields-room, longest};
 ghost use Rattle.text.specs.Text.{Wrote, integer};
+
+// The room for the lines of one notification: no record's and no refusal's are longer.
+pub const LONGEST_LINES: usize = 1024;
 
 // The octet before a negative number.
 const MINUS: u8 = 45;
@@ -81,6 +84,7 @@ fn put_row(out: &mut [u8], at: usize, set: u32, row: Row, numbers: &[u32]) -> us
 // The lines of the fields of a kind whose groups are in the set, in the order of the wire.
 fn put_fields(out: &mut [u8], at: usize, kind: u8, set: u32, numbers: &[u32]) -> usize
     ensures { λ r. ⌜ Wrote (now (out .entry)) at (field-lines set (now (numbers .entry)) (layout kind)) (now (out .exit)) r ⌝ }
+    ensures { λ _. ⌜ length (field-lines set (now (numbers .entry)) (layout kind)) ≤ fields-room ⌝ }
 {
     let n = row_count(kind);
     let mut next = at;
@@ -93,6 +97,7 @@ fn put_fields(out: &mut [u8], at: usize, kind: u8, set: u32, numbers: &[u32]) ->
 // A record's number, kind, groups and direction.
 fn put_head(out: &mut [u8], at: usize, number: u32, kind: u8, groups: u32, direction: u8) -> usize
     ensures { λ r. ⌜ Wrote (now (out .entry)) at (head-lines number kind groups direction) (now (out .exit)) r ⌝ }
+    ensures { λ _. ⌜ length (head-lines number kind groups direction) ≤ head-room ⌝ }
 {
     let a = put_line(out, at, &RECORD, number);
     let b = put_line(out, a, &KIND, kind as u32);
@@ -103,6 +108,7 @@ fn put_head(out: &mut [u8], at: usize, number: u32, kind: u8, groups: u32, direc
 // The lines of a record with its number among the records of a capture.
 pub fn put_record(out: &mut [u8], at: usize, number: u32, record: Record) -> usize
     ensures { λ r. ⌜ Wrote (now (out .entry)) at (record-lines number «record») (now (out .exit)) r ⌝ }
+    ensures { λ _. ⌜ length (record-lines number «record») ≤ longest ⌝ }
 {
     let numbers = numbers_of(record);
     let groups = record.groups;
@@ -114,6 +120,7 @@ pub fn put_record(out: &mut [u8], at: usize, number: u32, record: Record) -> usi
 // The line of a refusal.
 pub fn put_refused(out: &mut [u8], at: usize, refusal: Refusal) -> usize
     ensures { λ r. ⌜ Wrote (now (out .entry)) at (refused-line (number-of refusal)) (now (out .exit)) r ⌝ }
+    ensures { λ _. ⌜ length (refused-line (number-of refusal)) ≤ longest ⌝ }
 {
     put_line(out, at, &REFUSED, refusal.number() as u32)
 }

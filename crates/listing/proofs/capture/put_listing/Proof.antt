@@ -1,52 +1,55 @@
--- `put_listing` meets its contract: 36, then 11, then the notifications. Assumes nothing.
-use mathlib.Core.Path.{sym, _∙_}
+-- `put_listing` meets its contract. The invariant: all is written but what the walk has yet to write. The measure is the number of steps that it has
+-- yet to take, at most. Assumes nothing.
 use native.Mathlib.Omega.{arith}
 use borrow.Author.Needs.{needs}
 use borrow.Author.Tests.{not-true, not-false}
-use Rattle.listing.proofs.Walked.{too-long, no-octets, no-kind, of-a-kind}
+use Rattle.listing.specs.Listing.{listing}
+use Rattle.text.proofs.Writing.{keeps}
+use Rattle.listing.proofs.Partly.{Partly, begin, more, finished}
+use Rattle.listing.proofs.Walked.{left-of, remaining, one-step, falls, done}
 use Rattle.listing.proofs.capture.put_listing.Statement.{statement}
 use Rattle.listing.proofs.capture.put_listing.Tie as tie
 
-returns : tie.Need-returns
+abbrev Inv-loop : tie.InvT-loop
+Inv-loop out₀ at capture next₀ walk₀ out next walk = Partly out₀ at (listing capture) (left-of walk capture) out next
+
+abbrev μ-loop : tie.MeasureT-loop
+μ-loop out₀ at capture next₀ walk₀ out next walk = remaining walk capture
+
+loop-holds : tie.Need-loop-holds Inv-loop μ-loop
+loop-holds c = rw (c .begin .ensures) (begin _ _ _ (omega arith) (omega arith))
+
+loop-less : tie.Need-loop-less Inv-loop μ-loop
+loop-less c =
+    let p = c .before .before .before in
+    let t = p .before .before in
+    let l = t .before .before in
+    let s = l .before .before .before .before .args .capture .now in
+    rw (p .step .ensures .walk) (falls (l .loop .walk) s (not-true _ (t .if1 .taken)))
+
+loop-again : tie.Need-loop-again Inv-loop μ-loop
+loop-again c =
+    let p = c .before .before .before in
+    let l = p .before .before .before .before in
+    let s = l .before .before .before .before .args .capture .now in
+    more (l .loop .inv) (rw (p .step .ensures .walk) (one-step (l .loop .walk) s)) (p .step .ensures .lines)
+
+returns : tie.Need-returns Inv-loop μ-loop
 returns c =
-    let r = c .before .before in
-    rw (too-long _ (r .before .before .if1 .taken)) (r .put-refused .ensures)
-
-returns-2 : tie.Need-returns-2
-returns-2 c =
-    let r = c .before .before in
-    rw (no-octets _ (r .before .before .if2 .taken)) (r .put-refused2 .ensures)
-
-returns-3 : tie.Need-returns-3
-returns-3 c =
-    let r = c .before .before in
-    let t = r .before .before in
-    let k = t .before in
-    rw (no-kind _ (k .before .before .before .if1 .left) (sym (k .is-known .ensures) ∙ not-true _ (t .if3 .taken))) (r .put-refused3 .ensures)
-
-returns-4 : tie.Need-returns-4
-returns-4 c =
-    let r = c .before .before in
-    let t = r .before .before in
-    let k = t .before in
-    let n = k .before .before in
-    rw (of-a-kind _ (n .before .if1 .left) (n .if2 .left) (sym (k .is-known .ensures) ∙ not-false _ (t .if3 .left))) (r .put-notifications .ensures)
+    let l = c .before .before in
+    let s = l .before .before .before .before .args .capture .now in
+    finished (l .loop .inv) (done (l .loop .walk) s (not-false _ (c .if1 .left)))
 
 pub put-listing-spec : {M : Type 1} → statement M
 put-listing-spec =
     tie.close
     (tie.spec
+    Inv-loop
+    μ-loop
     (λ c κs. search needs)
-    (λ c. search needs)
-    returns
+    loop-holds
     (λ c κs. search needs)
-    (λ c. search needs)
-    returns-2
-    (λ c. omega arith)
-    (λ c κs. search needs)
-    (λ c κs. search needs)
-    (λ c. search needs)
-    returns-3
-    (λ c κs. search needs)
-    (λ c. search needs)
-    returns-4)
+    loop-less
+    loop-again
+    (λ c. keeps (c .before .before .loop .inv .wrote))
+    returns)

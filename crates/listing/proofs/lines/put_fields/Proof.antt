@@ -9,6 +9,7 @@ use Rattle.record.specs.Layout.{layout, no-row}
 use Rattle.listing.specs.Lines.{field-lines}
 use Rattle.text.specs.Text.{Wrote}
 use Rattle.text.proofs.Writing.{nothing}
+use Rattle.listing.proofs.Room.{fields-short}
 use Rattle.listing.proofs.Rows.{next-row, all-rows}
 use Rattle.listing.proofs.lines.put_fields.Statement.{statement}
 use Rattle.listing.proofs.lines.put_fields.Tie as tie
@@ -38,8 +39,11 @@ loop-again c =
 returns : tie.Need-returns Inv-loop μ-loop
 returns c =
     let l = c .before in
-    let s = l .before .before .before .before .args in
-    all-rows (s .set) (s .numbers .now) (layout (s .kind)) (l .loop .i) (omega arith) (l .loop .inv .3)
+    let k = l .before .before in
+    let s = k .before .before .args in (
+      all-rows (s .set) (s .numbers .now) (layout (s .kind)) (l .loop .i) (omega arith) (l .loop .inv .3),
+      fields-short (s .set) (s .numbers .now) (λ i. k .shared-slice-known .given i .fits) (s .kind),
+    )
 
 pub put-fields-spec : {M : Type 1} → statement M
 put-fields-spec =

@@ -1,7 +1,9 @@
 -- `put_head` meets its contract: four lines. Assumes nothing.
+use native.Mathlib.Omega.{arith}
 use borrow.Author.Needs.{needs}
 use Rattle.listing.specs.Lines.{head-lines}
 use Rattle.text.proofs.Writing.{then}
+use Rattle.listing.proofs.Room.{head-short}
 use Rattle.listing.proofs.lines.put_head.Statement.{statement}
 use Rattle.listing.proofs.lines.put_head.Tie as tie
 
@@ -19,5 +21,7 @@ put-head-spec =
     let d = c .before .before in
     let g = d .before .before .before .before .before in
     let k = g .before .before .before .before .before in
-    let n = k .before .before .before .before .before in
-    then (then (then (n .put-line .ensures) (k .put-line2 .ensures)) (g .put-line3 .ensures)) (d .put-line4 .ensures)))
+    let n = k .before .before .before .before .before in (
+      then (then (then (n .put-line .ensures) (k .put-line2 .ensures)) (g .put-line3 .ensures)) (d .put-line4 .ensures),
+      head-short _ _ _ _ (omega arith) (omega arith) (omega arith) (omega arith),
+    )))

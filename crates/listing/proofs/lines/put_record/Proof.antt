@@ -1,5 +1,6 @@
 -- `put_record` meets its contract: the head, then the fields. Assumes nothing.
 use borrow.Author.Needs.{needs}
+use Rattle.listing.proofs.Room.{record-short}
 use Rattle.listing.proofs.Rows.{whole-record}
 use Rattle.listing.proofs.lines.put_record.Statement.{statement}
 use Rattle.listing.proofs.lines.put_record.Tie as tie
@@ -18,4 +19,5 @@ put-record-spec =
     (λ c.
     let d = c .before .before in
     let h = d .before .before .before .before .before in
-    whole-record _ _ (h .before .before .numbers-of .ensures) (h .put-head .ensures) (d .put-fields .ensures)))
+    let n = h .before .before .numbers-of .ensures in
+    (whole-record _ _ n (h .put-head .ensures .0) (d .put-fields .ensures .0), record-short _ _ n (h .put-head .ensures .1) (d .put-fields .ensures .1))))

@@ -1,6 +1,8 @@
 -- `put_refused` meets its contract: a line with the refusal's number. Assumes nothing.
+use native.Mathlib.Omega.{arith}
 use borrow.Author.Needs.{needs}
 use Rattle.listing.specs.Lines.{refused-line}
+use Rattle.listing.proofs.Room.{refused-short}
 use Rattle.listing.proofs.lines.put_refused.Statement.{statement}
 use Rattle.listing.proofs.lines.put_refused.Tie as tie
 
@@ -14,4 +16,4 @@ put-refused-spec =
     (λ c. search needs)
     (λ c κs. search needs)
     (λ c. search needs)
-    (λ c. let d = c .before .before in rw (← d .before .number .ensures) (d .put-line .ensures)))
+    (λ c. let d = c .before .before in rw (← d .before .number .ensures) (d .put-line .ensures, refused-short _ (omega arith))))

@@ -3,8 +3,8 @@ use mathlib.Core.Path.{ap}
 use borrow.Author.Needs.{needs}
 use Rattle.service.specs.declared.collector.Collection.{Collection}
 use Rattle.listing.specs.Listing.{state, begins}
-use Rattle.listing.proofs.capture.start.Statement.{statement}
-use Rattle.listing.proofs.capture.start.Tie as tie
+use Rattle.listing.proofs.walk.start.Statement.{statement}
+use Rattle.listing.proofs.walk.start.Tie as tie
 
 pub start-spec : {M : Type 1} → statement M
 unfolding begins

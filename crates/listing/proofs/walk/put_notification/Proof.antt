@@ -2,8 +2,8 @@
 use mathlib.Core.Path.{ap, ap₂, _∙_}
 use borrow.Author.Needs.{needs}
 use Rattle.listing.specs.Listing.{state, number-after}
-use Rattle.listing.proofs.capture.put_notification.Statement.{statement}
-use Rattle.listing.proofs.capture.put_notification.Tie as tie
+use Rattle.listing.proofs.walk.put_notification.Statement.{statement}
+use Rattle.listing.proofs.walk.put_notification.Tie as tie
 
 returns : tie.Need-returns
 returns c =
@@ -11,8 +11,11 @@ returns c =
     let p = n .before .before .before in
     let s = p .before .before in
     let l = s .before .before .before .args .listing in (
-      rw (← s .collect .ensures .0) (p .put-answer .ensures),
-      ap₂ state (s .collect .ensures .1) (n .number-after .ensures ∙ ap (number-after (l .number)) (s .collect .ensures .0)),
+      rw (← s .collect .ensures .0) (p .put-answer .ensures .0),
+      (
+        ap₂ state (s .collect .ensures .1) (n .number-after .ensures ∙ ap (number-after (l .number)) (s .collect .ensures .0)),
+        rw (← s .collect .ensures .0) (p .put-answer .ensures .1),
+      ),
     )
 
 pub put-notification-spec : {M : Type 1} → statement M

@@ -1,8 +1,8 @@
 -- `number_after` meets its contract. Assumes nothing.
 use borrow.Author.Needs.{needs}
 use native.Mathlib.Omega.{arith}
-use Rattle.listing.proofs.capture.number_after.Statement.{statement}
-use Rattle.listing.proofs.capture.number_after.Tie as tie
+use Rattle.listing.proofs.walk.number_after.Statement.{statement}
+use Rattle.listing.proofs.walk.number_after.Tie as tie
 
 pub number-after-spec : {M : Type 1} → statement M
 number-after-spec =
