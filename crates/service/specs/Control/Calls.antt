@@ -40,7 +40,11 @@ open-reply (given k) = accepts k
 abbrev pub opens : Opening → Answer Sent × Console
 opens o = open-reply (opened o)
 
--- "connect, disconnect and indications 10, 17"; "17: client not connected; for connect, already connected"; "Indications are off at connect"
+-- "connect, disconnect and indications 10, 17"; "17: client not connected; for connect, already connected": what a connected client is answered
+abbrev pub of-connected : Console → ℕ → Answer Sent × Console → Answer Sent × Console
+of-connected k c x = cond (ltb 3 c) (refuses k 10) (cond (not (is-connected k c)) (refuses k 17) x)
+
+-- "Indications are off at connect"
 unfoldable pub connects : Console → ℕ → Answer Sent × Console
 connects k c =
     cond (ltb 3 c) (refuses k 10)
@@ -50,24 +54,15 @@ connects k c =
 -- "Disconnect frees control held by that client, its indications and its awaited response."
 unfoldable pub disconnects : Console → ℕ → Answer Sent × Console
 disconnects k c =
-    cond (ltb 3 c) (refuses k 10)
-    (cond (not (is-connected k c)) (refuses k 17)
-    (accepts (record { machine = freed (k .machine) c; clients = set (k .clients) c absent; awaited = without (k .awaited) c })))
+    of-connected k c (accepts (record { machine = freed (k .machine) c; clients = set (k .clients) c absent; awaited = without (k .awaited) c }))
 
 -- "turning them off leaves an awaited response due"
 unfoldable pub indicates : Console → ℕ → Bool → Answer Sent × Console
-indicates k c on =
-    cond (ltb 3 c) (refuses k 10)
-    (cond (not (is-connected k c)) (refuses k 17)
-    (accepts (with-client k c (record { connected = true; indicating = on }))))
+indicates k c on = of-connected k c (accepts (with-client k c (record { connected = true; indicating = on })))
 
 -- "confirm 10, 17, 21"; "21: confirm by a client to whom no response is due"
 unfoldable pub confirms : Console → ℕ → Answer Sent × Console
-confirms k c =
-    cond (ltb 3 c) (refuses k 10)
-    (cond (not (is-connected k c)) (refuses k 17)
-    (cond (not (is (k .awaited) c)) (refuses k 21)
-    (accepts (awaiting k Nobody))))
+confirms k c = of-connected k c (cond (not (is (k .awaited) c)) (refuses k 21) (accepts (awaiting k Nobody)))
 
 -- "Response: 80, op code, result. Each then awaits confirmation; 02 to 05 change nothing else."
 abbrev pub answers : Console → ℕ → ℕ → List ℕ → Answer Sent × Console
@@ -78,9 +73,8 @@ answers k c o p =
 -- "A write is judged in this order: 10, 17, 18, 19, 20", then by its result. "20: a response awaits confirmation", any client's
 unfoldable pub writes : Console → ℕ → List ℕ → Answer Sent × Console
 writes k c s =
-    cond (ltb 3 c) (refuses k 10)
-    (cond (not (is-connected k c)) (refuses k 17)
+    of-connected k c
     (cond (eqb (length s) 0) (refuses k 18)
     (cond (not (is-indicating k c)) (refuses k 19)
     (cond (someone (k .awaited)) (refuses k 20)
-    (answers k c (getD s 0 0) (drop 1 s))))))
+    (answers k c (getD s 0 0) (drop 1 s)))))
