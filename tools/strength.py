@@ -3,7 +3,7 @@
 
     python3 tools/strength.py                   a random sample of 60 edits of one token each, from a fixed seed
     python3 tools/strength.py --constants       an edit of each constant that is no table
-    python3 tools/strength.py --wrong           the wrong programs of tools/wrong.txt, two for each public function
+    python3 tools/strength.py --wrong           the wrong programs of tools/wrong.txt, two at least for each public function
     python3 tools/strength.py --list            the places that the sample is drawn from, and proves nothing
 
     -n N           how many edits are judged            --seed S       another sample
