@@ -13,7 +13,7 @@
 
 An edit is made in a copy of the repository; its crate is checked there by `rt dev`, and the file is put back. `refused`: the prover does not
 prove the crate. `no program`: the compiler takes no such text; the edit says nothing, and another is drawn. `survived`: the crate is still
-proved, and so is every library above it. One prover runs at a time; what it said last is in the copy's target/last.out. The exit status is 0
+proved, and so is every library above it, and `ftlist`. One prover runs at a time; what it said last is in the copy's target/last.out. The exit status is 0
 where nothing survived.
 """
 import argparse
@@ -28,7 +28,7 @@ import time
 
 sys.dont_write_bytecode = True
 
-from edits import LIBRARIES, Source, constant_sites, full_name, region, sites_of, untried, wrong_programs
+from edits import LIBRARIES, RELYING, Source, constant_sites, full_name, region, sites_of, untried, wrong_programs
 
 SEED = 20260101
 COUNT = 60
@@ -49,7 +49,7 @@ class Copy:
         for line in open(os.path.join(where, "crates.txt")):
             name, _, below = line.partition(":")
             for other in below.split():
-                if name.strip() in LIBRARIES and other in LIBRARIES:
+                if name.strip() in LIBRARIES + RELYING and other in LIBRARIES:
                     self.above[other].append(name.strip())
 
     def path(self, file):
@@ -76,7 +76,7 @@ class Copy:
         return "undecided", f"exit {run.returncode}"
 
     def warm(self):
-        for name in LIBRARIES:
+        for name in LIBRARIES + RELYING:
             began = time.time()
             verdict, why = self.check(name)
             print(f"{name} as it stands: {'proved' if verdict == 'survived' else verdict + ' ' + why} ({time.time() - began:.0f} s)", flush=True)

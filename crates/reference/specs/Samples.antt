@@ -24,7 +24,7 @@ pub other-lines :
 unfolding layout tables step-climber cross-trainer has named size names name bare decimal group-word row-names row-place row-line
 other-lines = (refl, refl, refl)
 
--- "6, 30: 30", in one part; and the cross trainer's 18, 20 and 9 less two times its flags
+-- the indoor bike's 30 octets at payload 30, in one part; and the cross trainer's 18, 20 and 9 less two times its flags
 pub all-groups :
     (sizes 6 ≡ ascii "Flags: 2 octets. With all groups present: 30 octets.\n\n") ×
     (sizes 2 ≡ ascii "Flags: 3 octets. With all groups present: 41 octets.\n\n") ×

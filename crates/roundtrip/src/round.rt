@@ -1,4 +1,5 @@
 // A record split into its parts, and the parts collected into a record again: the same for every kind.
+use listing::lines::LONGEST_LINES;
 use listing::lines::put_record;
 use listing::lines::put_refused;
 use output::first;
@@ -28,9 +29,6 @@ use service::collector::open;
 
 // The most octets of a notification; 20 is the least payload that the splitter takes.
 const PAYLOAD: usize = 20;
-
-// No record's lines are longer.
-const LINES: usize = 1024;
 
 const BLANK: Record = Record {
     kind: 0,
@@ -88,13 +86,13 @@ pub fn blank(kind: u8) -> Record {
 }
 
 fn show_refused(refusal: Refusal) {
-    let mut lines = [0u8; LINES];
+    let mut lines = [0u8; LONGEST_LINES];
     let length = put_refused(&mut lines, 0, refusal);
     print(first(&lines, length));
 }
 
 fn show_record(record: Record) {
-    let mut lines = [0u8; LINES];
+    let mut lines = [0u8; LONGEST_LINES];
     let length = put_record(&mut lines, 0, 1, record);
     print(first(&lines, length));
 }

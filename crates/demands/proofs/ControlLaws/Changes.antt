@@ -5,7 +5,8 @@ use mathlib.Core.Logic.{_⊎_, inl, inr}
 use mathlib.Core.Bool.{true, false, true≢false}
 use mathlib.Core.List.{List, []}
 use native.Mathlib.Omega.{arith}
-use Rattle.record.specs.Answer.{Answer}
+use Rattle.record.specs.declared.feature.Feature.{Feature}
+use Rattle.record.specs.Answer.{Answer, given}
 use Rattle.record.specs.Octets.{number}
 use Rattle.record.proofs.Tests.{passed, failed, tested, eqb-eq}
 use Rattle.service.specs.declared.control.Console.{Console}
@@ -17,11 +18,13 @@ use Rattle.service.specs.declared.control.op_codes.Act.the-variants.{TakesContr
 use Rattle.service.specs.Control.Machine.{is, someone, without}
 use Rattle.service.specs.Control.Judging.{controls, fails}
 use Rattle.service.specs.Control.Effects.{done}
-use Rattle.service.specs.Control.Console.{awaiting}
+use Rattle.service.specs.Control.Console.{awaiting, first}
 use Rattle.service.specs.Control.Replies.{Sent, refusal-of, status-of}
-use Rattle.service.specs.Control.Calls.{disconnects, writes}
-use Rattle.demands.specs.Control.Point.{Call, disconnect, write, step}
-use Rattle.demands.specs.Control.Laws.{by, result-in, Unchanged, Spared}
+use Rattle.service.specs.Control.Calls.{Opening, opened, disconnects, writes}
+use Rattle.service.proofs.ControlLaws.Answers.{setup-of}
+use Rattle.demands.specs.Control.Point.{Call, disconnect, write, step, service, run}
+use Rattle.demands.specs.Control.Laws.{by, result-in, Unchanged, ByAnother, Spared}
+use Rattle.demands.proofs.ControlLaws.Kept.{opened-first, run-keeps}
 use Rattle.demands.proofs.ControlLaws.Steps.{Stepped, refusal, connected, gone, indicated, confirmed, denied, granted, steps}
 
 pub is-client : (w : Who) (c : ℕ) → is w c ≡ true → w ≡ Client c
@@ -66,7 +69,7 @@ pub results-02-to-05 : (k : Console) (c : ℕ) (s : List ℕ) → 2 ≤ result-i
     (status-of (writes k c s .0) ≡ []) × (writes k c s .1 ≡ awaiting k (Client c))
 results-02-to-05 k c s h = only-awaits k (steps k (write c s)) h
 
--- ---- a call by a client that does not hold control
+-- ---- a call that the holder did not make
 module _ (m : Machine) (w : Who) where
   spared : {n : Machine} → n .settings ≡ m .settings → n .mode ≡ m .mode → n .setup ≡ m .setup → n .holder ≡ m .holder → Spared m w n
   spared a b d e = record { same-settings = a; same-mode = b; same-setup = d; holder-or-new = inl e }
@@ -85,17 +88,17 @@ spared-done m c n p Starts e f = absurd (n (is-client (m .holder) c e))
 spared-done m c n p Halts e f = absurd (n (is-client (m .holder) c e))
 spared-done m c n p (Stores at) e f = absurd (n (is-client (m .holder) c e))
 
-another-stepped : (k : Console) {q : Call} {x : Answer Sent × Console} → Stepped k q x → (k .machine .holder ≡ by q → ⊥) →
+another-stepped : (k : Console) {q : Call} {x : Answer Sent × Console} → Stepped k q x → ByAnother k q →
     Spared (k .machine) (by q) (x .1 .machine)
 another-stepped k {q} (refusal n l g) h = spared (k .machine) (by q) refl refl refl refl
 another-stepped k (connected c i e) h = spared (k .machine) (Client c) refl refl refl refl
-another-stepped k (gone c i e) h = spared (k .machine) (Client c) refl refl refl (without-other (k .machine .holder) c h)
+another-stepped k (gone c i e) h = spared (k .machine) (Client c) refl refl refl (without-other (k .machine .holder) c (λ e. h c e refl))
 another-stepped k (indicated c on i e) h = spared (k .machine) (Client c) refl refl refl refl
 another-stepped k (confirmed c i e f) h = spared (k .machine) (Client c) refl refl refl refl
 another-stepped k (denied c o p i r e) h = spared (k .machine) (Client c) refl refl refl refl
-another-stepped k (granted c o p i x e g) h = spared-done (k .machine) c h p (x .act) (g .controlled) (g .right)
+another-stepped k (granted c o p i x e g) h = spared-done (k .machine) c (λ e. h c e refl) p (x .act) (g .controlled) (g .right)
 
-pub by-another : (k : Console) (q : Call) → (k .machine .holder ≡ by q → ⊥) → Spared (k .machine) (by q) (step k q .1 .machine)
+pub by-another : (k : Console) (q : Call) → ByAnother k q → Spared (k .machine) (by q) (step k q .1 .machine)
 by-another k q h = another-stepped k (steps k q) h
 
 -- ---- a disconnect, the holder's too, changes no setting and no mode
@@ -127,3 +130,10 @@ fixed-stepped k (granted c o p i x e g) = fixed-done (k .machine) c p (x .act)
 
 pub fixed-at-opening : (k : Console) (q : Call) → step k q .1 .machine .setup ≡ k .machine .setup
 fixed-at-opening k q = fixed-stepped k (steps k q)
+
+-- so after any sequence of calls from opening the machine has the ranges that it was opened with
+pub setup-after : (o : Opening) (k : Console) → opened o ≡ given k → (qs : List Call) →
+    (f : Feature) × (run service k [] qs .1 .machine .setup ≡ setup-of f o)
+setup-after o k e qs =
+    let f : (f : Feature) × (k ≡ first (setup-of f o)) = opened-first o k e in
+    (f .0, run-keeps (λ x. x .machine .setup ≡ setup-of (f .0) o) (λ x q h. fixed-at-opening x q ∙ h) k [] qs (ap (λ (x : Console). x .machine .setup) (f .1)))

@@ -6,11 +6,11 @@ use mathlib.Core.Bool.{Bool, true, false, cond, _&&_}
 use mathlib.Core.List.{List, [], _∷_}
 use native.Mathlib.Omega.{arith}
 use lib.Dec.{eqb}
+use Rattle.record.specs.declared.feature.Feature.{Feature}
 use Rattle.record.specs.Answer.{Answer, refused, given}
 use Rattle.record.proofs.Tests.{passed, failed, tested, eqb-eq, eqb-ne, eqb-false, eqb-same}
 use Rattle.service.specs.declared.control.Console.{Console}
 use Rattle.service.specs.declared.control.machine.Machine.{Machine}
-use Rattle.service.specs.declared.control.machine.Setup.{Setup}
 use Rattle.service.specs.declared.control.machine.Who.{Who}
 use Rattle.service.specs.declared.control.machine.Who.the-variants.{Nobody, Client}
 use Rattle.service.specs.declared.control.op_codes.Act.{Act}
@@ -22,6 +22,7 @@ use Rattle.service.specs.Control.Effects.{response-octets, done}
 use Rattle.service.specs.Control.Console.{first}
 use Rattle.service.specs.Control.Replies.{Sent, sent}
 use Rattle.service.specs.Control.Calls.{Opening, opened, writes}
+use Rattle.service.proofs.ControlLaws.Answers.{setup-of}
 use Rattle.demands.specs.Control.Point.{Call, connect, disconnect, confirm, indicate, write, service, Event, event, step, run}
 use Rattle.demands.specs.Control.Laws.{by, result-in, succeeded, is-disconnect, ends, unless-ended, holder-by}
 use Rattle.demands.proofs.ControlLaws.Numbers.{Number, number-so, not-01}
@@ -117,7 +118,7 @@ pub holder-by-history : (o : Opening) (k : Console) → opened o ≡ given k →
     run service k [] qs .1 .machine .holder ≡ holder-by (run service k [] qs .0) []
 unfolding recent
 holder-by-history o k e qs =
-    let f : (s : Setup) × (k ≡ first s) = opened-first o k e in
+    let f : (f : Feature) × (k ≡ first (setup-of f o)) = opened-first o k e in
     follows k [] qs (rw (f .1)) ∙ sym (by-recent (run service k [] qs .0) [] ∙ none-ended (recent (run service k [] qs .0)))
 
 -- ---- what a 00 that succeeds changes: who is awaited and who holds control

@@ -31,6 +31,7 @@ use Rattle.service.specs.Control.Console.{absent, client-at, is-connected, with
 use Rattle.service.specs.Control.Replies.{Sent}
 use Rattle.service.specs.Control.Calls.{Opening, open-with, opened}
 use Rattle.service.proofs.ControlLaws.Fits.{length-fit, allowed-fit}
+use Rattle.service.proofs.ControlLaws.Answers.{setup-of}
 use Rattle.demands.specs.Control.Point.{Call, service, Event, event, step, run}
 use Rattle.demands.specs.Control.Laws.{Present, Links, Right, at-zero, set-to, Sound}
 use Rattle.demands.proofs.ControlLaws.Places.{stored-same, stored-other, zero-at}
@@ -158,21 +159,20 @@ sound-first s = record {
 }
 
 -- what opening gives
-pub opened-first : (o : Opening) (k : Console) → opened o ≡ given k → (s : Setup) × (k ≡ first s)
+pub opened-first : (o : Opening) (k : Console) → opened o ≡ given k → (f : Feature) × (k ≡ first (setup-of f o))
 unfolding opened
-opened-first o k e = from (feature-of (o .octets)) e
+opened-first o k e = from (feature-of (o .feature)) e
   where
-    from : (a : Answer Feature) → open-with a (o .ranges) ≡ given k → (s : Setup) × (k ≡ first s)
+    from : (a : Answer Feature) → open-with a (o .ranges) ≡ given k → (f : Feature) × (k ≡ first (setup-of f o))
     from (refused n) e = absurd (let z : _≡_ {A = ℕ} 0 1 = cc in omega arith)
     from (given f) e =
-        let s : Setup = record { feature = f; ranges = o .ranges } in
-        elim (tested (usable s)) [
-          | passed g ↦ (s, let h : given (first s) ≡ given k = rw g at e in cc)
+        elim (tested (usable (setup-of f o))) [
+          | passed g ↦ (f, let h : given (first (setup-of f o)) ≡ given k = rw g at e in cc)
           | failed g ↦ absurd (let h : _≡_ {A = Answer Console} (refused 16) (given k) = rw g at e in let z : _≡_ {A = ℕ} 0 1 = cc in omega arith)
         ]
 
 -- what a call keeps, a sequence of calls keeps
-run-keeps : (P : Console → Type 0) → ((k : Console) (q : Call) → P k → P (step k q .1)) →
+pub run-keeps : (P : Console → Type 0) → ((k : Console) (q : Call) → P k → P (step k q .1)) →
     (k : Console) (past : List Event) (qs : List Call) → P k → P (run service k past qs .1)
 unfolding run
 run-keeps P h k past [] p = p
@@ -180,5 +180,5 @@ run-keeps P h k past (q ∷ qs) p = run-keeps P h (step k q .1) (event q (step k
 
 pub sound-after : (o : Opening) (k : Console) → opened o ≡ given k → (qs : List Call) → Sound (run service k [] qs .1)
 sound-after o k e qs =
-    let f : (s : Setup) × (k ≡ first s) = opened-first o k e in
-    run-keeps Sound sound-step k [] qs (rw (f .1) (sound-first (f .0)))
+    let f : (f : Feature) × (k ≡ first (setup-of f o)) = opened-first o k e in
+    run-keeps Sound sound-step k [] qs (rw (f .1) (sound-first (setup-of (f .0) o)))

@@ -73,7 +73,7 @@ module _ {S R : Type 0} (p : Point S) (r : Point R) (a : Answers p) (b : Answers
 
 -- a machine with no target setting, and every range at 0
 abbrev plain : Opening
-plain = record { octets = 0 ∷ 0 ∷ 0 ∷ 0 ∷ 0 ∷ 0 ∷ 0 ∷ 0 ∷ []; ranges = closed .machine .setup .ranges }
+plain = record { feature = 0 ∷ 0 ∷ 0 ∷ 0 ∷ 0 ∷ 0 ∷ 0 ∷ 0 ∷ []; ranges = closed .machine .setup .ranges }
 
 opens-so : opened plain ≡ given closed
 unfolding opened number

@@ -24,7 +24,7 @@ use Rattle.service.proofs.control.Console.indicate.Reads as indicate-code
 use Rattle.service.proofs.control.Console.confirm.Reads as confirm-code
 use Rattle.service.proofs.control.Console.write.Reads as write-code
 use Rattle.demands.specs.Control.Point.{Call, connect, disconnect, confirm, indicate, write, Point, service, Event, event, step, run, Answers}
-use Rattle.demands.specs.Control.Laws.{Sound, stores, by, result-in, holder-by, setting-by, Heard, Unchanged, Spared}
+use Rattle.demands.specs.Control.Laws.{Sound, stores, by, result-in, holder-by, setting-by, Heard, Unchanged, ByAnother, Spared}
 use Rattle.demands.proofs.ControlLaws.Kept.{sound-step, sound-after}
 use Rattle.demands.proofs.ControlLaws.Changes.{refusals, by-another}
 use Rattle.demands.proofs.ControlLaws.History.{holder-by-history}
@@ -75,7 +75,7 @@ module _ {k : Console} {q : Call} {x : Answer Sent × Console} (d : Did k q x) w
   pub ours-refusals : (refusal-of (x .0) ≡ 0) ⊎ Unchanged k x
   ours-refusals = rw (steps-alike d) (refusals k q)
 
-  pub ours-spares : (k .machine .holder ≡ by q → ⊥) → Spared (k .machine) (by q) (x .1 .machine)
+  pub ours-spares : ByAnother k q → Spared (k .machine) (by q) (x .1 .machine)
   ours-spares h = rw (steps-alike d) (by-another k q h)
 
   pub ours-keeps : Sound k → Sound (x .1)

@@ -91,8 +91,8 @@ can-step k q = from q (sayable k (steps k q))
 
 openable : (o : Opening) → Sayable (opens o)
 openable o =
-    let f : Feature = named (words (o .octets)) in
-    elim (tested (eqb (length (o .octets)) 8)) [
+    let f : Feature = named (words (o .feature)) in
+    elim (tested (eqb (length (o .feature)) 8)) [
       | failed e ↦ rw (opens-22 o 22 (rw e)) (says-refused closed 22 (lit≤ tt) (lit≤ tt))
       | passed e ↦ elim (tested (usable (setup-of f o))) [
         | failed u ↦ rw (opens-16 o f (rw e) u) (says-refused closed 16 (lit≤ tt) (lit≤ tt))
@@ -103,7 +103,7 @@ openable o =
 can-open : (o : Opening) → DidOpen o (opened o)
 can-open o =
     let y : Sayable (opens o) = openable o in
-    let r : RefT (List ℕ) = record { ptr = (0, 0); name = 0; now = o .octets } in
+    let r : RefT (List ℕ) = record { ptr = (0, 0); name = 0; now = o .feature } in
     subst (λ (a : Answer Console). DidOpen o a) (ap console-of (y .1 .means) ∙ console-again (opened o))
     (did-open [] r (o .ranges) (y .0) (r, (o .ranges, tt)) (y .1))
 

@@ -6,11 +6,11 @@ use mathlib.Core.List.{List, [], _∷_}
 use native.Mathlib.Omega.{arith}
 use lib.Dec.{eqb}
 use lib.ListN.{length}
+use Rattle.record.specs.declared.feature.Feature.{Feature}
 use Rattle.record.specs.Answer.{Answer, given}
 use Rattle.record.proofs.Tests.{passed, failed, tested, eqb-eq, eqb-ne, eqb-false}
 use Rattle.service.specs.declared.control.Console.{Console}
 use Rattle.service.specs.declared.control.machine.Machine.{Machine}
-use Rattle.service.specs.declared.control.machine.Setup.{Setup}
 use Rattle.service.specs.declared.control.machine.Who.the-variants.{Client}
 use Rattle.service.specs.declared.control.op_codes.OpCode.{OpCode}
 use Rattle.service.specs.declared.control.op_codes.Act.{Act}
@@ -25,6 +25,7 @@ use Rattle.service.specs.Control.Console.{first}
 use Rattle.service.specs.Control.Replies.{Sent}
 use Rattle.service.specs.Control.Calls.{Opening, opened, writes}
 use Rattle.service.proofs.ControlLaws.Fits.{length-fit}
+use Rattle.service.proofs.ControlLaws.Answers.{setup-of}
 use Rattle.demands.specs.Control.Point.{Call, write, service, Event, event, step, run}
 use Rattle.demands.specs.Control.Laws.{Sound, keeps, stores, zero-setting, parameter, result-in, succeeded, setting-by}
 use Rattle.demands.proofs.ControlLaws.Numbers.{Number, number-so, not-01}
@@ -87,8 +88,8 @@ follows o t k s past (q ∷ qs) f =
 pub setting-by-history : (o : Opening) (k : Console) → opened o ≡ given k → (qs : List Call) → (i : ℕ) → stores (op-code i) ≡ true →
     setting (run service k [] qs .1 .machine) i ≡ setting-by i (run service k [] qs .0)
 setting-by-history o k e qs i t =
-    let f : (s : Setup) × (k ≡ first s) = opened-first o k e in
-    follows i t k (rw (f .1) (sound-first (f .0))) [] qs (rw (f .1) (unfold setting setting-by in zero-at i))
+    let f : (f : Feature) × (k ≡ first (setup-of f o)) = opened-first o k e in
+    follows i t k (rw (f .1) (sound-first (setup-of (f .0) o))) [] qs (rw (f .1) (unfold setting setting-by in zero-at i))
 
 -- ---- a write of an op code that stores succeeds for the holder alone
 pub granted-to-holder : (k : Console) (c o : ℕ) (p : List ℕ) → stores (op-code o) ≡ true → result-in (writes k c (o ∷ p) .0) ≡ result-number Success →

@@ -153,7 +153,11 @@ pub record Unchanged (k : Console) (x : Answer Sent × Console) : Type 0 where
   pub no-status : status-of (x .0) ≡ []
   pub same : x .1 ≡ k
 
--- a machine before and after a call by a client that does not hold control: settings, mode and what was fixed at opening stay. The holder
+-- the holder did not make this call, nor did anyone else who holds control
+abbrev pub ByAnother : Console → Call → Type 0
+ByAnother k q = (c : ℕ) → k .machine .holder ≡ Client c → by q ≡ Client c → ⊥
+
+-- a machine before and after a call that the holder did not make: settings, mode and what was fixed at opening stay. The holder
 -- stays, but that a 00 that succeeds gives control to its client where nobody had it: "not the holder (but for 00), 05". (A disconnect of such
 -- a client changes who is connected, its indications and its awaited response, and nothing else.)
 pub record Spared (m : Machine) (w : Who) (n : Machine) : Type 0 where

@@ -27,11 +27,11 @@ abbrev pub setup-of : Feature → Opening → Setup
 setup-of f o = record { feature = f; ranges = o .ranges }
 
 module _ (o : Opening) where
-  pub opens-22 : (n : ℕ) → feature-of (o .octets) ≡ refused n → opened o ≡ refused n
+  pub opens-22 : (n : ℕ) → feature-of (o .feature) ≡ refused n → opened o ≡ refused n
   unfolding opened
   opens-22 n e = ap (λ (x : Answer Feature). open-with x (o .ranges)) e
 
-  module _ (f : Feature) (e : feature-of (o .octets) ≡ given f) where
+  module _ (f : Feature) (e : feature-of (o .feature) ≡ given f) where
     pub opens-16 : usable (setup-of f o) ≡ false → opened o ≡ refused 16
     unfolding opened
     opens-16 u = ap (λ (x : Answer Feature). open-with x (o .ranges)) e ∙ rw u

@@ -1,5 +1,5 @@
 -- A rule of the op codes is a test that computes over the table: it holds of whatever the table says of an op code.
-use Prim.Native.Nat.{ℕ, _+_, _≤_}
+use Prim.Native.Nat.{ℕ, _≤_}
 use mathlib.Core.Path.{_≡_, refl, sym}
 use mathlib.Core.Bool.{Bool, true}
 use mathlib.Core.List.{List, [], _∷_}
@@ -8,12 +8,10 @@ use lib.Dec.{eqb, leb}
 use borrow.Author.Tests.{ne-eqb}
 use Rattle.record.proofs.Tests.{passed, failed, tested, leb-le, eqb-eq, and-l, and-r, all}
 use Rattle.service.specs.declared.control.op_codes.OpCode.{OpCode}
-use Rattle.service.specs.declared.control.op_codes.Act.{Act}
-use Rattle.service.specs.declared.control.op_codes.Act.the-variants.{TakesControl, Resets, Starts, Halts, Stores}
 use Rattle.service.specs.declared.control.op_codes.Lookup.the-variants.{Known, Unknown}
 use Rattle.service.specs.Control.OpCodes.{Line, table, look-up, op-code}
 use Rattle.service.specs.Control.Parameters.{size}
-use Rattle.service.specs.Control.Effects.{Room}
+use Rattle.service.specs.Control.Effects.{end-of, Room}
 
 -- an op code that is known is no unknown one
 pub not-unknown : {A : Type 0} {x : OpCode} → Unknown ≡ Known x → A
@@ -64,22 +62,8 @@ ten o x = leb (size (x .parameter)) 10
 pub size-most : (o : ℕ) (x : OpCode) → op-code o ≡ Known x → size (x .parameter) ≤ 10
 size-most o x e = leb-le (size (x .parameter)) 10 (table-rule ten refl o x e)
 
-abbrev end : ℕ → Act → ℕ
-end n TakesControl = 0
-end n Resets = 0
-end n Starts = 0
-end n Halts = 0
-end n (Stores at) = at + n
-
 abbrev inside : ℕ → OpCode → Bool
-inside o x = leb (end (size (x .parameter)) (x .act)) 49
+inside o x = leb (end-of (x .act) (size (x .parameter))) 49
 
 pub room-for : (o : ℕ) (x : OpCode) → op-code o ≡ Known x → Room (x .act) (size (x .parameter))
-room-for o x e = from (x .act) (leb-le (end (size (x .parameter)) (x .act)) 49 (table-rule inside refl o x e))
-  where
-    from : (a : Act) → end (size (x .parameter)) a ≤ 49 → Room a (size (x .parameter))
-    from TakesControl h = tt
-    from Resets h = tt
-    from Starts h = tt
-    from Halts h = tt
-    from (Stores at) h = h
+room-for o x e = leb-le (end-of (x .act) (size (x .parameter))) 49 (table-rule inside refl o x e)

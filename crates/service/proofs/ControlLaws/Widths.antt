@@ -30,8 +30,8 @@ simulation i = copies 2 i S16 ∙ same i
     same (suc (suc (suc (suc i)))) = refl
 
 -- the numbers and the octets of a parameter that is known
-pub number-of : {p q : Parameter} (i : ℕ) → p ≡ q → getD (widths q) i U8 ≡ getD (widths p) i U8
-number-of i e = ap (λ (x : Parameter). getD (widths x) i U8) (sym e)
+pub same-width : {p q : Parameter} (i : ℕ) → p ≡ q → getD (widths q) i U8 ≡ getD (widths p) i U8
+same-width i e = ap (λ (x : Parameter). getD (widths x) i U8) (sym e)
 
 pub size-of : {p q : Parameter} → p ≡ q → size q ≡ size p
 size-of e = ap size (sym e)

@@ -17,13 +17,13 @@ use Rattle.service.specs.Control.Effects.{response-octets, status-after,
 use Rattle.service.specs.Control.Console.{absent, is-connected, is-indicating, with-client, awaiting, first, closed}
 use Rattle.service.specs.Control.Replies.{Sent, refuses, accepts, responds}
 
--- "A machine is opened with a Feature value and its ranges."
+-- "A machine is opened with a Feature value and its ranges.": the value's octets
 pub record Opening : Type 0 where
-  pub octets : List ℕ
+  pub feature : List ℕ
   pub ranges : Ranges
 
 abbrev pub opening : List ℕ → Ranges → Opening
-opening s r = record { octets = s; ranges = r }
+opening s r = record { feature = s; ranges = r }
 
 -- "opening a machine 22, 16"
 abbrev pub open-with : Answer Feature → Ranges → Answer Console
@@ -31,7 +31,7 @@ open-with (refused n) r = refused n
 open-with (given f) r = let s : Setup = record { feature = f; ranges = r } in provided (usable s) 16 (given (first s))
 
 unfoldable pub opened : Opening → Answer Console
-opened o = open-with (feature-of (o .octets)) (o .ranges)
+opened o = open-with (feature-of (o .feature)) (o .ranges)
 
 abbrev pub open-reply : Answer Console → Answer Sent × Console
 open-reply (refused n) = refuses closed n

@@ -65,13 +65,16 @@ module _ (m : Machine) (c o : ℕ) (p : List ℕ) where
   abbrev pub performs : Performed
   performs = record { result = result m c o p; status = boxed status-after; machine = machine-after }
 
--- where an act stores a parameter of n octets, they lie among the 49 of the settings
+-- where a parameter of n octets ends among the settings, if an act stores it; they are 49 octets: the sixteen settings, one behind the other
+abbrev pub end-of : Act → ℕ → ℕ
+end-of TakesControl n = 0
+end-of Resets n = 0
+end-of Starts n = 0
+end-of Halts n = 0
+end-of (Stores at) n = at + n
+
 abbrev pub Room : Act → ℕ → Type 0
-Room TakesControl n = Unit {0}
-Room Resets n = Unit {0}
-Room Starts n = Unit {0}
-Room Halts n = Unit {0}
-Room (Stores at) n = at + n ≤ 49
+Room a n = end-of a n ≤ 49
 
 -- the octets of a setting, from its place on; none for an op code that stores nothing
 abbrev pub part : List ℕ → ℕ → Act → List ℕ

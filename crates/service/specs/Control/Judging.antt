@@ -55,11 +55,11 @@ takes Starts = false
 takes Halts = false
 takes (Stores at) = false
 
--- "not the holder (but for 00)", turned over
+-- the opposite of "not the holder (but for 00)"
 abbrev pub controls : Who → ℕ → Act → Bool
 controls w c a = cond (takes a) true (is w c)
 
--- "wrong length, value outside its range or 08 with neither 1 nor 2", turned over
+-- the opposite of "wrong length, value outside its range or 08 with neither 1 nor 2"
 unfoldable pub fit : Ranges → OpCode → List ℕ → Bool
 fit ranges x p = eqb (length p) (size (x .parameter)) && allowed ranges (x .bound) p
 

@@ -12,7 +12,7 @@ use Rattle.service.specs.declared.control.machine.Who.{Who}
 use Rattle.service.specs.declared.control.machine.Who.the-variants.{Nobody, Client}
 use Rattle.service.specs.Control.Ranges.{are-ranges}
 
--- "16: some range has least above greatest", turned over
+-- the opposite of "16: some range has least above greatest"
 abbrev pub usable : Setup → Bool
 usable s = are-ranges (s .ranges)
 

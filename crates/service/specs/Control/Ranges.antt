@@ -33,11 +33,11 @@ bounded r Power x = in-range (r .power .least) (r .power .greatest) x
 bounded r HeartRate x = in-range (pos (r .«heart_rate» .least)) (pos (r .«heart_rate» .greatest)) x
 bounded r OneOrTwo x = in-range (pos 1) (pos 2) x
 
--- "value outside its range or 08 with neither 1 nor 2", turned over
+-- the opposite of "value outside its range or 08 with neither 1 nor 2"
 abbrev pub allowed : Ranges → Bound → List ℕ → Bool
 allowed r b p = bounded r b (value b p)
 
--- "some range has least above greatest", turned over
+-- the opposite of "some range has least above greatest"
 abbrev pub are-ranges : Ranges → Bool
 are-ranges r =
     leZ (pos (r .speed .least)) (pos (r .speed .greatest)) && (leZ (r .inclination .least) (r .inclination .greatest) &&

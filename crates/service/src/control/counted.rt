@@ -6,7 +6,7 @@ ghost use lib.ListN.{length, take, drop};
 ghost use Rattle.record.specs.Octets.{placed};
 ghost use Rattle.service.specs.Control.Counted.{boxed};
 
-// As many octets as the count says; those past the count are 0.
+// As many octets as the count says; those past the count are 0. The longest are a status octet and a parameter of ten.
 pub struct Counted {
     pub count: u8,
     pub octets: [u8; 11],
@@ -77,7 +77,7 @@ pub(crate) fn three(x: u8, y: u8, z: u8) -> Counted
 }
 
 // An octet and a parameter.
-pub(crate) fn before(first: u8, p: &[u8]) -> Counted
+pub(crate) fn with_parameter(first: u8, p: &[u8]) -> Counted
     requires { ⌜ length (now p) ≤ 10 ⌝ }
     ensures { λ r. ⌜ r ≡ boxed (first ∷ now (p .entry)) ⌝ }
 {

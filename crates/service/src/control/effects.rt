@@ -1,10 +1,10 @@
 // What a write of an op code and its parameter does to the machine, and says.
 use crate::control::counted::Counted;
-use crate::control::counted::before;
 use crate::control::counted::kept;
 use crate::control::counted::none;
 use crate::control::counted::one;
 use crate::control::counted::stored;
+use crate::control::counted::with_parameter;
 use crate::control::judging::WriteResult;
 use crate::control::judging::judged;
 use crate::control::machine::Machine;
@@ -76,7 +76,7 @@ fn says(status: Status, p: &[u8]) -> Counted
     match status {
         Status::Silent => none(),
         Status::Octet(x) => one(x),
-        Status::Echo(x) => before(x, p),
+        Status::Echo(x) => with_parameter(x, p),
     }
 }
 

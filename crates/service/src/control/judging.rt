@@ -70,7 +70,7 @@ fn takes_control(act: Act) -> bool
     }
 }
 
-// "not the holder (but for 00)"
+// Whether a client may write an op code: the holder may, and for 00 anyone.
 fn controls(holder: Who, client: u8, act: Act) -> bool
     ensures { λ r. ⌜ r ≡ Judging·controls holder client act ⌝ }
 {
@@ -113,7 +113,7 @@ fn is_running(mode: Mode) -> bool
     }
 }
 
-// The conditions of result 04.
+// Whether result 04 is due, where 02, 05 and 03 are not.
 fn fails(machine: Machine, client: u8, act: Act, x: u8) -> bool
     ensures { λ r. ⌜ r ≡ Judging·fails machine client act x ⌝ }
 {

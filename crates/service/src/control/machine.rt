@@ -23,6 +23,7 @@ pub struct Setup {
     pub ranges: Ranges,
 }
 
+// What op codes act on. The settings stand one behind the other in the order of op codes, sixteen of them in 49 octets.
 pub struct Machine {
     pub setup: Setup,
     pub holder: Who,
@@ -72,7 +73,7 @@ impl Who {
 }
 
 impl Machine {
-    // "At first it is stopped, no client is connected, nobody holds control, and every setting is zero."
+    // "At first it is stopped, .. nobody holds control, and every setting is zero."
     pub(crate) fn fresh(setup: Setup) -> Machine
         ensures { λ r. ⌜ r ≡ Machine·fresh setup ⌝ }
     {

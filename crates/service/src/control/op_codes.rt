@@ -51,7 +51,7 @@ pub enum Status {
     Echo(u8),
 }
 
-// What success does: the octets of a setting are stored from a place on.
+// What success does: gives control, resets, starts, stops or pauses, or stores the parameter among the settings from a place on.
 pub enum Act {
     TakesControl,
     Resets,

@@ -15,4 +15,4 @@ says-spec =
     (λ c κs. search needs)
     (λ c. rw (c .before .enum-told .given .1) (c .none .ensures))
     (λ c. rw (c .before .before .status .given .1) (c .one .ensures))
-    (λ c. rw (c .before .before .status2 .given .1) (c .before2 .ensures)))
+    (λ c. rw (c .before .before .status2 .given .1) (c .with-parameter .ensures)))

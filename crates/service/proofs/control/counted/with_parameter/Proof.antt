@@ -1,4 +1,4 @@
--- `before` meets its contract. Assumes nothing.
+-- `with_parameter` meets its contract. Assumes nothing.
 use Prim.Native.Nat.{ℕ, _+_, _≤_}
 use mathlib.Core.Path.{_≡_, _∙_}
 use mathlib.Core.List.{List, _∷_}
@@ -7,8 +7,8 @@ use borrow.Author.Needs.{needs}
 use denote.Ref.{now}
 use lib.ListN.{length}
 use Rattle.service.proofs.ControlLaws.Boxes.{boxes}
-use Rattle.service.proofs.control.counted.before.Statement.{statement}
-use Rattle.service.proofs.control.counted.before.Tie as tie
+use Rattle.service.proofs.control.counted.with_parameter.Statement.{statement}
+use Rattle.service.proofs.control.counted.with_parameter.Tie as tie
 
 returns : tie.Need-returns
 returns c =
@@ -18,8 +18,8 @@ returns c =
     let b : length l ≤ 11 = omega (arith, s .pre) in
     λ i. record { count = n i; octets = (c .before .put .ensures ∙ boxes l b) i }
 
-pub before-spec : {M : Type 1} → statement M
-before-spec = tie.close (tie.spec (λ c. search needs)
+pub with-parameter-spec : {M : Type 1} → statement M
+with-parameter-spec = tie.close (tie.spec (λ c. search needs)
     (λ c. search needs)
     (λ c κs. search needs)
     (λ c. search needs)
