@@ -13,7 +13,7 @@ pub struct Counted {
 }
 
 // Writes octets over others, from a place on.
-fn put(out: &mut [u8], at: usize, octets: &[u8])
+pub(crate) fn put(out: &mut [u8], at: usize, octets: &[u8])
     requires { ⌜ at + length (now octets) ≤ length (now out) ⌝ }
     ensures { λ r. ⌜ now (out .exit) ≡ placed (now (out .entry)) at (now (octets .entry)) ⌝ }
 {
@@ -22,16 +22,6 @@ fn put(out: &mut [u8], at: usize, octets: &[u8])
         out[at + i] = octets[i];
         i = i + 1;
     }
-}
-
-// The settings with some octets written at a place.
-pub(crate) fn stored(settings: [u8; 49], place: u8, octets: &[u8]) -> [u8; 49]
-    requires { ⌜ place + length (now octets) ≤ 49 ⌝ }
-    ensures { λ r. ⌜ r ≡ placed settings place (now (octets .entry)) ⌝ }
-{
-    let mut out = settings;
-    put(&mut out, place as usize, octets);
-    out
 }
 
 // The octets of a setting that starts at a place.

@@ -3,7 +3,6 @@ use crate::control::counted::Counted;
 use crate::control::counted::kept;
 use crate::control::counted::none;
 use crate::control::counted::one;
-use crate::control::counted::stored;
 use crate::control::counted::with_parameter;
 use crate::control::judging::WriteResult;
 use crate::control::judging::judged;
@@ -18,10 +17,8 @@ use crate::control::op_codes::op_code;
 use record::octets::u8_at;
 ghost use mathlib.Core.Path.{_≡_};
 ghost use mathlib.Core.List.{[]};
-ghost use Prim.Native.Nat.{_+_, _≤_};
+ghost use Prim.Native.Nat.{_≤_};
 ghost use lib.ListN.{length};
-ghost use Rattle.record.specs.Octets.{placed};
-ghost use Rattle.service.specs.Control.Machine.{storing as Machine·storing};
 ghost use Rattle.service.specs.Control.Counted.{boxed};
 ghost use Rattle.service.specs.Control.Effects.{Room, halted-to, done as Effects·done, part as Effects·part, status-octets, performs, setting as Effects·setting};
 
@@ -42,16 +39,6 @@ fn halted(x: u8) -> Mode
     Mode::Paused
 }
 
-// A setting is stored.
-fn keeping(machine: Machine, place: u8, p: &[u8]) -> Machine
-    requires { ⌜ place + length (now p) ≤ 49 ⌝ }
-    ensures { λ r. ⌜ r ≡ Machine·storing machine (placed (machine .settings) place (now (p .entry))) ⌝ }
-{
-    let old = machine.settings;
-    let settings = stored(old, place, p);
-    machine.storing(settings)
-}
-
 // What the success of an op code with its parameter makes of a machine.
 fn done(machine: Machine, client: u8, act: Act, p: &[u8]) -> Machine
     requires { ⌜ Room act (length (now p)) ⌝ }
@@ -64,7 +51,7 @@ fn done(machine: Machine, client: u8, act: Act, p: &[u8]) -> Machine
         Act::Resets => machine.reset(),
         Act::Starts => machine.going(Mode::Running),
         Act::Halts => machine.going(mode),
-        Act::Stores(place) => keeping(machine, place, p),
+        Act::Stores(place) => machine.storing(place, p),
     }
 }
 
@@ -128,11 +115,12 @@ fn part(settings: [u8; 49], count: u8, act: Act) -> Counted
     requires { ⌜ (count ≤ 10) × Room act count ⌝ }
     ensures { λ r. ⌜ r ≡ boxed (Effects·part settings count act) ⌝ }
 {
+    let nothing = none();
     match act {
-        Act::TakesControl => none(),
-        Act::Resets => none(),
-        Act::Starts => none(),
-        Act::Halts => none(),
+        Act::TakesControl => nothing,
+        Act::Resets => nothing,
+        Act::Starts => nothing,
+        Act::Halts => nothing,
         Act::Stores(place) => kept(settings, place, count),
     }
 }

@@ -10,7 +10,7 @@ use crate::control::ranges::allowed;
 use record::feature::Feature;
 use record::octets::u8_at;
 ghost use mathlib.Core.Path.{_≡_};
-ghost use Rattle.service.specs.Control.Judging.{result-number, succeeds, supports as Judging·supports, takes, controls as Judging·controls, fit as Judging·fit, no-halt, runs, fails as Judging·fails, first-of, judged as Judging·judged};
+ghost use Rattle.service.specs.Control.Judging.{result-number, succeeds, supports as Judging·supports, controls as Judging·controls, fit as Judging·fit, no-halt, runs, fails as Judging·fails, first-of, judged as Judging·judged};
 
 // The result of a write.
 pub enum WriteResult {
@@ -58,26 +58,18 @@ fn supports(feature: Feature, need: Need) -> bool
     }
 }
 
-fn takes_control(act: Act) -> bool
-    ensures { λ r. ⌜ r ≡ takes act ⌝ }
-{
-    match act {
-        Act::TakesControl => true,
-        Act::Resets => false,
-        Act::Starts => false,
-        Act::Halts => false,
-        Act::Stores(_) => false,
-    }
-}
-
 // Whether a client may write an op code: the holder may, and for 00 anyone.
 fn controls(holder: Who, client: u8, act: Act) -> bool
     ensures { λ r. ⌜ r ≡ Judging·controls holder client act ⌝ }
 {
-    if takes_control(act) {
-        return true;
+    let held = holder.is(client);
+    match act {
+        Act::TakesControl => true,
+        Act::Resets => held,
+        Act::Starts => held,
+        Act::Halts => held,
+        Act::Stores(_) => held,
     }
-    holder.is(client)
 }
 
 // Whether a parameter has the right length and is allowed by what bounds it.

@@ -1,8 +1,12 @@
 // The machine that op codes act on: what it was opened with, who holds control, what it does, and its settings.
+use crate::control::counted::put;
 use crate::control::ranges::Ranges;
 use crate::control::ranges::are_ranges;
 use record::feature::Feature;
 ghost use mathlib.Core.Path.{_≡_};
+ghost use Prim.Native.Nat.{_+_, _≤_};
+ghost use lib.ListN.{length};
+ghost use Rattle.record.specs.Octets.{placed};
 ghost use Rattle.service.specs.Control.Machine.{usable, is as Machine·is, someone, without as Machine·without, fresh as Machine·fresh, held-by, freed as Machine·freed, going as Machine·going, storing as Machine·storing, cleared};
 
 // Nobody, or a client by its number.
@@ -124,19 +128,15 @@ impl Machine {
         }
     }
 
-    // The settings are these.
-    pub(crate) fn storing(self, settings: [u8; 49]) -> Machine
-        ensures { λ r. ⌜ r ≡ Machine·storing self settings ⌝ }
+    // A setting is stored from a place on.
+    pub(crate) fn storing(mut self, place: u8, octets: &[u8]) -> Machine
+        requires { ⌜ place + length (now octets) ≤ 49 ⌝ }
+        ensures { λ r. ⌜ r ≡ Machine·storing self (placed (self .settings) place (now (octets .entry))) ⌝ }
     {
-        let setup = self.setup;
-        let holder = self.holder;
-        let mode = self.mode;
-        Machine {
-            setup,
-            holder,
-            mode,
-            settings,
-        }
+        let mut settings = self.settings;
+        put(&mut settings, place as usize, octets);
+        self.settings = settings;
+        self
     }
 
     // "01 zeroes every setting, stops and frees control".

@@ -71,21 +71,15 @@ fn unsigned_within(least: u16, x: u16, greatest: u16) -> bool
 }
 
 // Both ends are allowed.
-fn signed_within(least: i16, x: i16, greatest: i16) -> bool
-    ensures { λ b. ⌜ b ≡ in-range least greatest x ⌝ }
-{
-    if least <= x {
-        return x <= greatest;
-    }
-    false
-}
-
-fn signed_in(range: SignedRange, x: i16) -> bool
+fn signed_within(range: SignedRange, x: i16) -> bool
     ensures { λ b. ⌜ b ≡ in-range (range .least) (range .greatest) x ⌝ }
 {
     let least = range.least;
     let greatest = range.greatest;
-    signed_within(least, x, greatest)
+    if least <= x {
+        return x <= greatest;
+    }
+    false
 }
 
 // Whether a parameter is allowed by what bounds it, if anything does. Resistance is one unsigned octet in a signed range.
@@ -97,19 +91,22 @@ pub(crate) fn allowed(ranges: Ranges, bound: Bound, p: &[u8]) -> bool
     let resistance = ranges.resistance;
     let power = ranges.power;
     let heart_rate = ranges.heart_rate;
+    let octet = u8_at(p, 0);
+    let word = u16_at(p, 0);
+    let signed = s16_at(p, 0);
     match bound {
         Bound::Free => true,
-        Bound::Speed => unsigned_within(speed.least, u16_at(p, 0), speed.greatest),
-        Bound::Inclination => signed_in(inclination, s16_at(p, 0)),
-        Bound::Resistance => signed_in(resistance, u8_at(p, 0) as i16),
-        Bound::Power => signed_in(power, s16_at(p, 0)),
+        Bound::Speed => unsigned_within(speed.least, word, speed.greatest),
+        Bound::Inclination => signed_within(inclination, signed),
+        Bound::Resistance => signed_within(resistance, octet as i16),
+        Bound::Power => signed_within(power, signed),
         Bound::HeartRate => {
             unsigned_within(
                 heart_rate.least as u16,
-                u8_at(p, 0) as u16,
+                octet as u16,
                 heart_rate.greatest as u16,
             )
         }
-        Bound::OneOrTwo => unsigned_within(1, u8_at(p, 0) as u16, 2),
+        Bound::OneOrTwo => unsigned_within(1, octet as u16, 2),
     }
 }

@@ -6,8 +6,8 @@ use Rattle.service.specs.Control.Effects.{halted-to}
 use Rattle.service.proofs.control.effects.done.Statement.{statement}
 use Rattle.service.proofs.control.effects.done.Tie as tie
 
-keeping-requires : tie.Need-keeping-requires
-keeping-requires c κs = rw (c .before .act .given .1) at (c .before .before .before .before .before .before .pre)
+storing-requires : tie.Need-storing-requires
+storing-requires c κs = rw (c .before .act .given .1) at (c .before .before .before .before .before .before .pre)
 
 returns-4 : tie.Need-returns-4
 returns-4 c =
@@ -30,9 +30,9 @@ done-spec =
     (λ c. search needs)
     (λ c κs. search needs)
     (λ c. search needs)
-    keeping-requires
+    storing-requires
     (λ c. rw (c .before .enum-told .given .1) (c .held .ensures))
     (λ c. rw (c .before .enum-told2 .given .1) (c .reset .ensures))
     (λ c. rw (c .before .enum-told3 .given .1) (c .going .ensures))
     returns-4
-    (λ c. rw (c .before .before .act .given .1) (c .keeping .ensures)))
+    (λ c. rw (c .before .before .act .given .1) (c .storing .ensures)))

@@ -1,11 +1,20 @@
--- `controls` meets its contract. Assumes nothing.
-use mathlib.Core.Path.{sym, _∙_}
+-- `controls` meets its contract, act by act. Assumes nothing.
 use borrow.Author.Needs.{needs}
 use Rattle.service.proofs.control.judging.controls.Statement.{statement}
 use Rattle.service.proofs.control.judging.controls.Tie as tie
 
 pub controls-spec : {M : Type 1} → statement M
-controls-spec = tie.close (tie.spec (λ c κs. search needs)
-    (λ c. rw (sym (c .before .takes-control .ensures) ∙ c .if1 .taken))
+controls-spec =
+    tie.close
+    (tie.spec
     (λ c κs. search needs)
-    (λ c. rw (sym (c .before .before .takes-control .ensures) ∙ c .before .if1 .left) (c .is .ensures)))
+    (λ c. search needs)
+    (λ c. search needs)
+    (λ c. search needs)
+    (λ c. search needs)
+    (λ c. search needs)
+    (λ c. search needs)
+    (λ c. rw (c .enum-told2 .given .1) (c .before .before .is .ensures))
+    (λ c. rw (c .enum-told3 .given .1) (c .before .before .is .ensures))
+    (λ c. rw (c .enum-told4 .given .1) (c .before .before .is .ensures))
+    (λ c. rw (c .enum-told5 .given .1) (c .before .before .is .ensures)))

@@ -1,4 +1,4 @@
--- `allowed` meets its contract: each arm reads its number and compares it with its range. Assumes nothing.
+-- `allowed` meets its contract: each arm compares its number with its range. Assumes nothing.
 use Prim.Native.Nat.{_<_}
 use mathlib.Core.Path.{_≡_, ap, _∙_}
 use native.Mathlib.Omega.{arith}
@@ -14,41 +14,35 @@ use Rattle.service.proofs.control.ranges.allowed.Tie as tie
 
 returns-3 : tie.Need-returns-3
 returns-3 c =
-    let f : SFits w16 (c .before .s16-at .result) = search needs in
-    rw (c .before .before .enum-told3 .given .1, ← (c .before .s16-at .ensures)) (rw (toZ-ofZ f) at (c .signed-in .ensures))
+    let s = c .before .before .before in
+    let f : SFits w16 (s .s16-at .result) = search needs in
+    rw (c .before .enum-told3 .given .1, ← (s .s16-at .ensures)) (rw (toZ-ofZ f) at (c .signed-within .ensures))
 
 returns-4 : tie.Need-returns-4
 returns-4 c =
-    let u = c .before in
-    let r = u .before .before .before .before .before .before .before .before .before .args .ranges .resistance in
+    let e = c .before in
+    let u = e .before .before .before .before in
+    let r = u .before .before .before .before .before .before .before .args .ranges .resistance in
     let h : u .u8-at .result < 256 = search needs in
     let z : toZ w16 (u .u8-at .result) ≡ pos (u .u8-at .result) = toZ-pos w16 (u .u8-at .result) (omega arith) in
-    rw (u .before .enum-told4 .given .1) (c .signed-in2 .ensures ∙ ap (in-range (r .least) (r .greatest)) (z ∙ ap pos (u .u8-at .ensures)))
+    rw (e .enum-told4 .given .1) (c .signed-within2 .ensures ∙ ap (in-range (r .least) (r .greatest)) (z ∙ ap pos (u .u8-at .ensures)))
 
 returns-5 : tie.Need-returns-5
 returns-5 c =
-    let f : SFits w16 (c .before .s16-at2 .result) = search needs in
-    rw (c .before .before .enum-told5 .given .1, ← (c .before .s16-at2 .ensures)) (rw (toZ-ofZ f) at (c .signed-in3 .ensures))
+    let s = c .before .before .before in
+    let f : SFits w16 (s .s16-at .result) = search needs in
+    rw (c .before .enum-told5 .given .1, ← (s .s16-at .ensures)) (rw (toZ-ofZ f) at (c .signed-within3 .ensures))
 
 pub allowed-spec : {M : Type 1} → statement M
 allowed-spec =
     tie.close
     (tie.spec
-    (λ c. search needs)
-    (λ c. search needs)
     (λ c κs. search needs)
-    (λ c κs. search needs)
-    (λ c. search needs)
     (λ c κs. search needs)
     (λ c κs. search needs)
     (λ c. search needs)
-    (λ c κs. search needs)
     (λ c. search needs)
     (λ c κs. search needs)
-    (λ c. search needs)
-    (λ c κs. search needs)
-    (λ c κs. search needs)
-    (λ c. search needs)
     (λ c. search needs)
     (λ c κs. search needs)
     (λ c. search needs)
@@ -56,12 +50,18 @@ allowed-spec =
     (λ c κs. search needs)
     (λ c. search needs)
     (λ c κs. search needs)
+    (λ c. search needs)
+    (λ c. search needs)
+    (λ c. search needs)
+    (λ c. search needs)
+    (λ c κs. search needs)
+    (λ c. search needs)
     (λ c. search needs)
     (λ c κs. search needs)
     (λ c. rw (c .enum-told .given .1))
-    (λ c. rw (c .before .before .enum-told2 .given .1, ← (c .before .u16-at .ensures)) (c .unsigned-within .ensures))
+    (λ c. rw (c .before .enum-told2 .given .1, ← (c .before .before .before .before .u16-at .ensures)) (c .unsigned-within .ensures))
     returns-3
     returns-4
     returns-5
-    (λ c. rw (c .before .before .before .before .enum-told6 .given .1, ← (c .before .before .u8-at2 .ensures)) (c .unsigned-within2 .ensures))
-    (λ c. rw (c .before .before .enum-told7 .given .1, ← (c .before .u8-at3 .ensures)) (c .unsigned-within3 .ensures)))
+    (λ c. rw (c .before .before .before .enum-told6 .given .1, ← (c .before .before .before .before .before .before .before .u8-at .ensures)) (c .unsigned-within2 .ensures))
+    (λ c. rw (c .before .enum-told7 .given .1, ← (c .before .before .before .before .before .u8-at .ensures)) (c .unsigned-within3 .ensures)))
