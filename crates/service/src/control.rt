@@ -177,9 +177,7 @@ impl Console {
             return refused(self, Refusal::ClientAboveThree);
         }
         let c = client as usize;
-        let clients = self.clients;
-        let was = clients[c];
-        if was.connected {
+        if self.clients[c].connected {
             return refused(self, Refusal::ConnectionMismatch);
         }
         let joined = Client {
@@ -197,20 +195,17 @@ impl Console {
             return refused(self, Refusal::ClientAboveThree);
         }
         let c = client as usize;
-        let clients = self.clients;
-        let was = clients[c];
-        if !was.connected {
+        if !self.clients[c].connected {
             return refused(self, Refusal::ConnectionMismatch);
         }
-        let mut left = clients;
-        left[c] = ABSENT;
-        let before = self.machine;
-        let machine = before.freed(client);
+        let mut clients = self.clients;
+        clients[c] = ABSENT;
+        let machine = self.machine.freed(client);
         let due = self.awaited;
         let awaited = due.without(client);
         accepted(Console {
             machine,
-            clients: left,
+            clients,
             awaited,
         })
     }
@@ -223,9 +218,7 @@ impl Console {
             return refused(self, Refusal::ClientAboveThree);
         }
         let c = client as usize;
-        let clients = self.clients;
-        let was = clients[c];
-        if !was.connected {
+        if !self.clients[c].connected {
             return refused(self, Refusal::ConnectionMismatch);
         }
         let turned = Client {
@@ -243,9 +236,7 @@ impl Console {
             return refused(self, Refusal::ClientAboveThree);
         }
         let c = client as usize;
-        let clients = self.clients;
-        let was = clients[c];
-        if !was.connected {
+        if !self.clients[c].connected {
             return refused(self, Refusal::ConnectionMismatch);
         }
         let due = self.awaited;
@@ -253,6 +244,7 @@ impl Console {
             return refused(self, Refusal::NothingDue);
         }
         let machine = self.machine;
+        let clients = self.clients;
         accepted(Console {
             machine,
             clients,
@@ -290,9 +282,8 @@ impl Console {
     fn answer(self, client: u8, op: u8, p: &[u8]) -> Reply
         ensures { λ r. ⌜ Says r (answers self client op (now (p .entry))) ⌝ }
     {
-        let before = self.machine;
         let clients = self.clients;
-        let performed = perform(before, client, op, p);
+        let performed = perform(self.machine, client, op, p);
         let result = performed.result;
         let response = response(op, result);
         let status = performed.status;
@@ -313,7 +304,6 @@ impl Console {
     pub fn setting(self, op: u8) -> Counted
         ensures { λ r. ⌜ r ≡ boxed (Effects·setting (self .machine) op) ⌝ }
     {
-        let machine = self.machine;
-        setting(machine, op)
+        setting(self.machine, op)
     }
 }

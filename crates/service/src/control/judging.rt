@@ -143,16 +143,13 @@ fn first_result(supported: bool, controlled: bool, fitting: bool, failing: bool)
 pub(crate) fn judged(machine: Machine, client: u8, code: OpCode, p: &[u8]) -> WriteResult
     ensures { λ r. ⌜ r ≡ Judging·judged machine client code (now (p .entry)) ⌝ }
 {
-    let setup = machine.setup;
-    let feature = setup.feature;
-    let ranges = setup.ranges;
     let holder = machine.holder;
     let need = code.need;
     let act = code.act;
     let x = u8_at(p, 0);
-    let supported = supports(feature, need);
+    let supported = supports(machine.setup.feature, need);
     let controlled = controls(holder, client, act);
-    let fitting = fit(ranges, code, p);
+    let fitting = fit(machine.setup.ranges, code, p);
     let failing = fails(machine, client, act, x);
     first_result(supported, controlled, fitting, failing)
 }

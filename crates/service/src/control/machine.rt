@@ -40,8 +40,7 @@ impl Setup {
     pub(crate) fn is_usable(self) -> bool
         ensures { λ r. ⌜ r ≡ usable self ⌝ }
     {
-        let ranges = self.ranges;
-        are_ranges(ranges)
+        are_ranges(self.ranges)
     }
 }
 
@@ -143,7 +142,6 @@ impl Machine {
     pub(crate) fn reset(self) -> Machine
         ensures { λ r. ⌜ r ≡ cleared self ⌝ }
     {
-        let setup = self.setup;
-        Machine::fresh(setup)
+        Machine::fresh(self.setup)
     }
 }

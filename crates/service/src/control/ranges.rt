@@ -35,32 +35,25 @@ pub struct Ranges {
 pub(crate) fn are_ranges(r: Ranges) -> bool
     ensures { λ b. ⌜ b ≡ are-ranges r ⌝ }
 {
-    let speed = r.speed;
-    let inclination = r.inclination;
-    let resistance = r.resistance;
-    let power = r.power;
-    let heart_rate = r.heart_rate;
-    if speed.greatest < speed.least {
+    if r.speed.greatest < r.speed.least {
         return false;
     }
-    if !is_signed_range(inclination) {
+    if !is_signed_range(r.inclination) {
         return false;
     }
-    if !is_signed_range(resistance) {
+    if !is_signed_range(r.resistance) {
         return false;
     }
-    if !is_signed_range(power) {
+    if !is_signed_range(r.power) {
         return false;
     }
-    heart_rate.least <= heart_rate.greatest
+    r.heart_rate.least <= r.heart_rate.greatest
 }
 
 fn is_signed_range(range: SignedRange) -> bool
     ensures { λ b. ⌜ b ≡ leZ (range .least) (range .greatest) ⌝ }
 {
-    let least = range.least;
-    let greatest = range.greatest;
-    least <= greatest
+    range.least <= range.greatest
 }
 
 // Both ends are allowed.
@@ -74,10 +67,8 @@ fn unsigned_within(least: u16, x: u16, greatest: u16) -> bool
 fn signed_within(range: SignedRange, x: i16) -> bool
     ensures { λ b. ⌜ b ≡ in-range (range .least) (range .greatest) x ⌝ }
 {
-    let least = range.least;
-    let greatest = range.greatest;
-    if least <= x {
-        return x <= greatest;
+    if range.least <= x {
+        return x <= range.greatest;
     }
     false
 }
@@ -86,25 +77,20 @@ fn signed_within(range: SignedRange, x: i16) -> bool
 pub(crate) fn allowed(ranges: Ranges, bound: Bound, p: &[u8]) -> bool
     ensures { λ b. ⌜ b ≡ Ranges·allowed ranges bound (now (p .entry)) ⌝ }
 {
-    let speed = ranges.speed;
-    let inclination = ranges.inclination;
-    let resistance = ranges.resistance;
-    let power = ranges.power;
-    let heart_rate = ranges.heart_rate;
     let octet = u8_at(p, 0);
     let word = u16_at(p, 0);
     let signed = s16_at(p, 0);
     match bound {
         Bound::Free => true,
-        Bound::Speed => unsigned_within(speed.least, word, speed.greatest),
-        Bound::Inclination => signed_within(inclination, signed),
-        Bound::Resistance => signed_within(resistance, octet as i16),
-        Bound::Power => signed_within(power, signed),
+        Bound::Speed => unsigned_within(ranges.speed.least, word, ranges.speed.greatest),
+        Bound::Inclination => signed_within(ranges.inclination, signed),
+        Bound::Resistance => signed_within(ranges.resistance, octet as i16),
+        Bound::Power => signed_within(ranges.power, signed),
         Bound::HeartRate => {
             unsigned_within(
-                heart_rate.least as u16,
+                ranges.heart_rate.least as u16,
                 octet as u16,
-                heart_rate.greatest as u16,
+                ranges.heart_rate.greatest as u16,
             )
         }
         Bound::OneOrTwo => unsigned_within(1, octet as u16, 2),

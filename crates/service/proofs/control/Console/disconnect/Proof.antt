@@ -11,13 +11,13 @@ returns c = rw (lt-ltb _ _ (c .before .if1 .taken)) (c .refused .ensures)
 
 returns-2 : tie.Need-returns-2
 unfolding disconnects
-returns-2 c = rw (le-ltb _ _ (c .before .before .before .before .before .if1 .left), c .before .if2 .taken) (c .refused2 .ensures)
+returns-2 c = rw (le-ltb _ _ (c .before .before .if1 .left), c .before .if2 .taken) (c .refused2 .ensures)
 
 returns-3 : tie.Need-returns-3
 unfolding disconnects
 returns-3 c =
-    let e = c .before .before .before .before in
-    rw (le-ltb _ _ (e .before .before .before .before .if1 .left), e .if2 .left, ← (c .before .before .freed .ensures), ← (c .before .without .ensures)) (c .accepted .ensures)
+    let e = c .before .before .before .before .before in
+    rw (le-ltb _ _ (e .before .if1 .left), e .if2 .left, ← (c .before .before .freed .ensures), ← (c .before .without .ensures)) (c .accepted .ensures)
 
 pub disconnect-spec : {M : Type 1} → statement M
 disconnect-spec =

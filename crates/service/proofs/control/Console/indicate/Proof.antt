@@ -11,11 +11,11 @@ returns c = rw (lt-ltb _ _ (c .before .if1 .taken)) (c .refused .ensures)
 
 returns-2 : tie.Need-returns-2
 unfolding indicates
-returns-2 c = rw (le-ltb _ _ (c .before .before .before .before .before .if1 .left), c .before .if2 .taken) (c .refused2 .ensures)
+returns-2 c = rw (le-ltb _ _ (c .before .before .if1 .left), c .before .if2 .taken) (c .refused2 .ensures)
 
 returns-3 : tie.Need-returns-3
 unfolding indicates
-returns-3 c = rw (le-ltb _ _ (c .before .before .before .before .before .before .if1 .left), c .before .before .if2 .left, ← (c .before .with .ensures)) (c .accepted .ensures)
+returns-3 c = rw (le-ltb _ _ (c .before .before .before .if1 .left), c .before .before .if2 .left, ← (c .before .with .ensures)) (c .accepted .ensures)
 
 pub indicate-spec : {M : Type 1} → statement M
 indicate-spec =

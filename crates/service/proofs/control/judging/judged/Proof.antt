@@ -14,7 +14,7 @@ returns c =
     let k = t .before in
     let s = k .before in
     let u = s .before in
-    let a = u .before .before .before .before .before .args in
+    let a = u .before .before .args in
     c .first-result .ensures ∙ judges (a .machine) (a .client) (a .code) (now (a .p)) (s .supports .ensures) (k .controls .ensures) (t .fit .ensures)
     (f .fails .ensures ∙ ap (fails (a .machine) (a .client) (a .code .act)) (u .u8-at .ensures))
 

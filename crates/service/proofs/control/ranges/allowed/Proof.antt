@@ -22,7 +22,7 @@ returns-4 : tie.Need-returns-4
 returns-4 c =
     let e = c .before in
     let u = e .before .before .before .before in
-    let r = u .before .before .before .before .before .before .before .args .ranges .resistance in
+    let r = u .before .before .args .ranges .resistance in
     let h : u .u8-at .result < 256 = search needs in
     let z : toZ w16 (u .u8-at .result) ≡ pos (u .u8-at .result) = toZ-pos w16 (u .u8-at .result) (omega arith) in
     rw (e .enum-told4 .given .1) (c .signed-within2 .ensures ∙ ap (in-range (r .least) (r .greatest)) (z ∙ ap pos (u .u8-at .ensures)))

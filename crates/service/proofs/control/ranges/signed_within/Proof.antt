@@ -21,8 +21,8 @@ module _ (c : tie.Start) where
 
 returns : tie.Need-returns
 returns c =
-    let s = c .before .before .before in
-    let t : leZ (s .args .range .least) (s .args .x) ≡ true = rw (toZ-ofZ (least-fits s), toZ-ofZ (x-fits s)) at (c .if1 .taken) in
+    let s = c .before .before .before .before .before in
+    let t : leZ (s .args .range .least) (s .args .x) ≡ true = rw (toZ-ofZ (least-fits s), toZ-ofZ (x-fits s)) at (c .before .before .if1 .taken) in
     rw (toZ-ofZ (x-fits s), toZ-ofZ (greatest-fits s), t)
 
 returns-2 : tie.Need-returns-2
