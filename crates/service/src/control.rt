@@ -153,20 +153,13 @@ impl Console {
     }
 
     // The console with another client in a client's place.
-    fn with(self, client: u8, state: Client) -> Console
+    fn with(mut self, client: u8, state: Client) -> Console
         requires { ⌜ client ≤ 3 ⌝ }
         ensures { λ r. ⌜ r ≡ with-client self client state ⌝ }
     {
-        let machine = self.machine;
-        let awaited = self.awaited;
-        let mut clients = self.clients;
         let c = client as usize;
-        clients[c] = state;
-        Console {
-            machine,
-            clients,
-            awaited,
-        }
+        self.clients[c] = state;
+        self
     }
 
     // A client connects, with indications off: 10, 17.
