@@ -28,7 +28,7 @@ ghost use Prim.Native.Nat.{_≤_};
 ghost use Rattle.record.specs.Refusal.{number-of};
 ghost use Rattle.service.specs.Control.Counted.{boxed};
 ghost use Rattle.service.specs.Control.Effects.{response-octets, setting as Effects·setting};
-ghost use Rattle.service.specs.Control.Console.{first, closed as Console·closed, with-client};
+ghost use Rattle.service.specs.Control.Console.{first, closed as Console·closed, client-at, with-client};
 ghost use Rattle.service.specs.Control.Replies.{Says, refuses, accepts};
 ghost use Rattle.service.specs.Control.Calls.{opening, opens, connects, disconnects, indicates, confirms, answers, writes};
 
@@ -152,6 +152,16 @@ impl Console {
         }
     }
 
+    // A client of the four.
+    fn client_at(self, client: u8) -> Client
+        requires { ⌜ client ≤ 3 ⌝ }
+        ensures { λ r. ⌜ r ≡ client-at self client ⌝ }
+    {
+        let clients = self.clients;
+        let c = client as usize;
+        clients[c]
+    }
+
     // The console with another client in a client's place.
     fn with(mut self, client: u8, state: Client) -> Console
         requires { ⌜ client ≤ 3 ⌝ }
@@ -169,8 +179,8 @@ impl Console {
         if 3 < client {
             return refused(self, Refusal::ClientAboveThree);
         }
-        let c = client as usize;
-        if self.clients[c].connected {
+        let was = self.client_at(client);
+        if was.connected {
             return refused(self, Refusal::ConnectionMismatch);
         }
         let joined = Client {
@@ -187,12 +197,12 @@ impl Console {
         if 3 < client {
             return refused(self, Refusal::ClientAboveThree);
         }
-        let c = client as usize;
-        if !self.clients[c].connected {
+        let was = self.client_at(client);
+        if !was.connected {
             return refused(self, Refusal::ConnectionMismatch);
         }
-        let mut clients = self.clients;
-        clients[c] = ABSENT;
+        let left = self.with(client, ABSENT);
+        let clients = left.clients;
         let machine = self.machine.freed(client);
         let due = self.awaited;
         let awaited = due.without(client);
@@ -210,8 +220,8 @@ impl Console {
         if 3 < client {
             return refused(self, Refusal::ClientAboveThree);
         }
-        let c = client as usize;
-        if !self.clients[c].connected {
+        let was = self.client_at(client);
+        if !was.connected {
             return refused(self, Refusal::ConnectionMismatch);
         }
         let turned = Client {
@@ -228,8 +238,8 @@ impl Console {
         if 3 < client {
             return refused(self, Refusal::ClientAboveThree);
         }
-        let c = client as usize;
-        if !self.clients[c].connected {
+        let was = self.client_at(client);
+        if !was.connected {
             return refused(self, Refusal::ConnectionMismatch);
         }
         let due = self.awaited;
@@ -252,9 +262,7 @@ impl Console {
         if 3 < client {
             return refused(self, Refusal::ClientAboveThree);
         }
-        let c = client as usize;
-        let clients = self.clients;
-        let was = clients[c];
+        let was = self.client_at(client);
         if !was.connected {
             return refused(self, Refusal::ConnectionMismatch);
         }

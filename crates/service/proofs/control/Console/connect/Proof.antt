@@ -11,11 +11,15 @@ returns c = rw (lt-ltb _ _ (c .before .if1 .taken)) (c .refused .ensures)
 
 returns-2 : tie.Need-returns-2
 unfolding connects
-returns-2 c = rw (le-ltb _ _ (c .before .before .if1 .left), c .before .if2 .taken) (c .refused2 .ensures)
+returns-2 c =
+    let a = c .before .before in
+    rw (le-ltb _ _ (a .before .if1 .left), (rw (a .client-at .ensures) at (c .before .if2 .taken))) (c .refused2 .ensures)
 
 returns-3 : tie.Need-returns-3
 unfolding connects
-returns-3 c = rw (le-ltb _ _ (c .before .before .before .if1 .left), c .before .before .if2 .left, ← (c .before .with .ensures)) (c .accepted .ensures)
+returns-3 c =
+    let a = c .before .before .before in
+    rw (le-ltb _ _ (a .before .if1 .left), (rw (a .client-at .ensures) at (c .before .before .if2 .left)), ← (c .before .with .ensures)) (c .accepted .ensures)
 
 pub connect-spec : {M : Type 1} → statement M
 connect-spec =
@@ -23,8 +27,7 @@ connect-spec =
     (tie.spec
     (λ c κs. search needs)
     returns
-    (λ c. search needs)
-    (λ c. search needs)
+    (λ c κs. search needs)
     (λ c κs. search needs)
     returns-2
     (λ c κs. search needs)

@@ -11,13 +11,17 @@ returns c = rw (lt-ltb _ _ (c .before .if1 .taken)) (c .refused .ensures)
 
 returns-2 : tie.Need-returns-2
 unfolding disconnects
-returns-2 c = rw (le-ltb _ _ (c .before .before .if1 .left), c .before .if2 .taken) (c .refused2 .ensures)
+returns-2 c =
+    let a = c .before .before .before in
+    rw (le-ltb _ _ (a .before .if1 .left), (rw (a .client-at .ensures) at (c .before .if2 .taken))) (c .refused2 .ensures)
 
 returns-3 : tie.Need-returns-3
 unfolding disconnects
 returns-3 c =
-    let e = c .before .before .before .before .before in
-    rw (le-ltb _ _ (e .before .if1 .left), e .if2 .left, ← (c .before .before .freed .ensures), ← (c .before .without .ensures)) (c .accepted .ensures)
+    let f = c .before .before in
+    let w = f .before .before in
+    let a = w .before .before .before in
+    rw (le-ltb _ _ (a .before .if1 .left), (rw (a .client-at .ensures) at (w .before .if2 .left)), ← (f .freed .ensures), ← (c .before .without .ensures)) (rw (w .with .ensures) at (c .accepted .ensures))
 
 pub disconnect-spec : {M : Type 1} → statement M
 disconnect-spec =
@@ -25,12 +29,10 @@ disconnect-spec =
     (tie.spec
     (λ c κs. search needs)
     returns
-    (λ c. search needs)
-    (λ c. search needs)
+    (λ c κs. search needs)
     (λ c κs. search needs)
     returns-2
-    (λ c. search needs)
-    (λ c. search needs)
+    (λ c κs. search needs)
     (λ c κs. search needs)
     (λ c κs. search needs)
     (λ c κs. search needs)
