@@ -96,6 +96,13 @@ fn line(parameter: Parameter, need: Need, bound: Bound, status: Status, act: Act
     })
 }
 
+// A line of the table that sets a target: its parameter, the target bit that it needs, what bounds it, the status octet that the parameter follows, and its place among the settings.
+fn target(parameter: Parameter, bit: u8, bound: Bound, status: u8, place: u8) -> Lookup
+    ensures { λ r. ⌜ r ≡ Lookup.Known (known parameter (Need.Bit bit) bound (Status.Echo status) (Act.Stores place)) ⌝ }
+{
+    line(parameter, Bit(bit), bound, Echo(status), Stores(place))
+}
+
 // What the table says of an op code, which stands in front of its line.
 pub fn op_code(op: u8) -> Lookup
     ensures { λ r. ⌜ r ≡ op-code op ⌝ }
@@ -103,24 +110,24 @@ pub fn op_code(op: u8) -> Lookup
     match op {
         0x00 => line(Empty, Always, Free, Silent, TakesControl),
         0x01 => line(Empty, Always, Free, Octet(0x01), Resets),
-        0x02 => line(U16, Bit(0), Speed, Echo(0x05), Stores(0)),
-        0x03 => line(S16, Bit(1), Inclination, Echo(0x06), Stores(2)),
-        0x04 => line(U8, Bit(2), Resistance, Echo(0x07), Stores(4)),
-        0x05 => line(S16, Bit(3), Power, Echo(0x08), Stores(5)),
-        0x06 => line(U8, Bit(4), HeartRate, Echo(0x09), Stores(7)),
+        0x02 => target(U16, 0, Speed, 0x05, 0),
+        0x03 => target(S16, 1, Inclination, 0x06, 2),
+        0x04 => target(U8, 2, Resistance, 0x07, 4),
+        0x05 => target(S16, 3, Power, 0x08, 5),
+        0x06 => target(U8, 4, HeartRate, 0x09, 7),
         0x07 => line(Empty, Always, Free, Octet(0x04), Starts),
         0x08 => line(U8, Always, OneOrTwo, Echo(0x02), Halts),
-        0x09 => line(U16, Bit(5), Free, Echo(0x0a), Stores(8)),
-        0x0a => line(U16, Bit(6), Free, Echo(0x0b), Stores(10)),
-        0x0b => line(U16, Bit(7), Free, Echo(0x0c), Stores(12)),
-        0x0c => line(U24, Bit(8), Free, Echo(0x0d), Stores(14)),
-        0x0d => line(U16, Bit(9), Free, Echo(0x0e), Stores(17)),
-        0x0e => line(TwoZones, Bit(10), Free, Echo(0x0f), Stores(19)),
-        0x0f => line(ThreeZones, Bit(11), Free, Echo(0x10), Stores(23)),
-        0x10 => line(FiveZones, Bit(12), Free, Echo(0x11), Stores(29)),
-        0x11 => line(Simulation, Bit(13), Free, Echo(0x12), Stores(39)),
-        0x12 => line(U16, Bit(14), Free, Echo(0x13), Stores(45)),
-        0x14 => line(U16, Bit(16), Free, Echo(0x15), Stores(47)),
+        0x09 => target(U16, 5, Free, 0x0a, 8),
+        0x0a => target(U16, 6, Free, 0x0b, 10),
+        0x0b => target(U16, 7, Free, 0x0c, 12),
+        0x0c => target(U24, 8, Free, 0x0d, 14),
+        0x0d => target(U16, 9, Free, 0x0e, 17),
+        0x0e => target(TwoZones, 10, Free, 0x0f, 19),
+        0x0f => target(ThreeZones, 11, Free, 0x10, 23),
+        0x10 => target(FiveZones, 12, Free, 0x11, 29),
+        0x11 => target(Simulation, 13, Free, 0x12, 39),
+        0x12 => target(U16, 14, Free, 0x13, 45),
+        0x14 => target(U16, 16, Free, 0x15, 47),
         _ => Lookup::Unknown,
     }
 }
