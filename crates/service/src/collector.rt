@@ -149,20 +149,13 @@ fn incomplete(told: Told, held: u32) -> bool
     }
 }
 
-// No numbers are held.
-fn clear(numbers: &mut [u32; 31])
-    ensures { λ r. ⌜ now (numbers .exit) ≡ zeros ⌝ }
-{
-    *numbers = [0u32; 31];
-}
-
 // The groups and numbers that are left where a part drops the held ones, or keeps them.
 fn left(dropped: bool, held: u32, numbers: &mut [u32; 31]) -> u32
     ensures { λ r. ⌜ r ≡ cond dropped 0 held ⌝ }
     ensures { λ r. ⌜ now (numbers .exit) ≡ cond dropped zeros (now (numbers .entry)) ⌝ }
 {
     if dropped {
-        clear(numbers);
+        *numbers = [0u32; 31];
         return 0;
     }
     held
@@ -172,7 +165,7 @@ fn left(dropped: bool, held: u32, numbers: &mut [u32; 31]) -> u32
 fn refuse(refusal: Refusal, held: u32, numbers: &mut [u32; 31]) -> Taken
     ensures { λ r. ⌜ (meant (r .answer) ≡ refused (number-of refusal) (not (eqb held 0))) × (r .held ≡ 0) × (now (numbers .exit) ≡ zeros) ⌝ }
 {
-    clear(numbers);
+    *numbers = [0u32; 31];
     let dropped = held != 0;
     let none: u32 = 0;
     Taken {
@@ -207,7 +200,7 @@ fn join(
         return refuse(Refusal::Incomplete, held, numbers);
     }
     let record = record_of(kind, joined, part.direction, numbers);
-    clear(numbers);
+    *numbers = [0u32; 31];
     Taken {
         answer: Collected::Record { record, dropped },
         held: 0,

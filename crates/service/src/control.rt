@@ -67,10 +67,11 @@ const ABSENT: Client = Client {
 fn refused(console: Console, why: Refusal) -> Reply
     ensures { λ r. ⌜ Says r (refuses console (number-of why)) ⌝ }
 {
+    let nothing = none();
     Reply {
         outcome: Outcome::Refused(why),
-        response: none(),
-        status: none(),
+        response: nothing,
+        status: nothing,
         console,
     }
 }
@@ -78,10 +79,11 @@ fn refused(console: Console, why: Refusal) -> Reply
 fn accepted(console: Console) -> Reply
     ensures { λ r. ⌜ Says r (accepts console) ⌝ }
 {
+    let nothing = none();
     Reply {
         outcome: Outcome::Done,
-        response: none(),
-        status: none(),
+        response: nothing,
+        status: nothing,
         console,
     }
 }

@@ -78,7 +78,7 @@ returns-2 c =
 
 returns-3 : tie.Need-returns-3
 returns-3 c =
-    let o = c .before .before in
+    let o = c .before in
     let t = o .before .before in
     let i = t .before in
     let r = i .before .before .before in
@@ -91,7 +91,7 @@ returns-3 c =
           (o .record-of .ensures ∙ ap₂ (λ (g : ℕ) (v : List ℕ). of-wire (a .kind) g (a .part .direction) v) (the-held l) (the-numbers r))
           (l .before .before .drops .ensures)
           ∙ ap (λ (x : Stepped). x .said) e,
-      ap (collection (a .kind) (a .told) 0) (c .clear .ensures) ∙ ap (λ (x : Stepped). x .next) e,
+      ap (λ (x : Stepped). x .next) e,
     )
 
 pub join-spec : {M : Type 1} → statement M
@@ -105,6 +105,5 @@ join-spec =
     (λ c κs. search needs)
     (λ c κs. search needs)
     returns-2
-    (λ c κs. search needs)
     (λ c κs. search needs)
     returns-3)

@@ -6,7 +6,7 @@ use Rattle.service.proofs.control.accepted.Statement.{statement}
 use Rattle.service.proofs.control.accepted.Tie as tie
 
 returns : tie.Need-returns
-returns c = rw (c .before .none .ensures, c .none2 .ensures) (sent-so [] [] (c .before .before .args .console))
+returns c = rw (c .none .ensures) (sent-so [] [] (c .before .args .console))
 
 pub accepted-spec : {M : Type 1} → statement M
-accepted-spec = tie.close (tie.spec (λ c κs. search needs) (λ c κs. search needs) returns)
+accepted-spec = tie.close (tie.spec (λ c κs. search needs) returns)
