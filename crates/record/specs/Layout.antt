@@ -1,7 +1,7 @@
 -- The field tables of the six kinds. "A notification is a flags field, then the groups named by its bits, in ascending bit order, least
 -- octet first. Bit 0 is More Data: the main group is present exactly when it is 0." So bit 0 stands for the main group here.
-use Prim.Native.Nat.{ℕ}
-use mathlib.Core.List.{List, [], _∷_}
+use Prim.Native.Nat.{ℕ, suc}
+use mathlib.Core.List.{List, [], _∷_, _++_}
 use lib.ListN.{getD}
 use Rattle.record.specs.declared.layout.Row.{Row}
 use Rattle.record.specs.declared.layout.Width.{Width}
@@ -121,116 +121,102 @@ octets-of U16 = 2
 octets-of U24 = 3
 octets-of S16 = 2
 
+-- ---- groups: each is its fields in the order of the wire, with their widths
+
+infixl 95 _u8 _u16 _u24 _s16
+infixr 90 _and_
+-- "Widths: u8, u16, u24, s16": a group of one field
+abbrev pub _u8 : ℕ → List (ℕ × Width)
+_u8 field = (field, U8) ∷ []
+
+abbrev pub _u16 : ℕ → List (ℕ × Width)
+_u16 field = (field, U16) ∷ []
+
+abbrev pub _u24 : ℕ → List (ℕ × Width)
+_u24 field = (field, U24) ∷ []
+
+abbrev pub _s16 : ℕ → List (ℕ × Width)
+_s16 field = (field, S16) ∷ []
+
+-- fields that stand together
+abbrev pub _and_ : List (ℕ × Width) → List (ℕ × Width) → List (ℕ × Width)
+_and_ fields others = fields ++ others
+
+-- "E is energy: total u16, per hour u16, per minute u8."
+abbrev pub E : List (ℕ × Width)
+E = total-energy u16 and energy-per-hour u16 and energy-per-minute u8
+
+-- "H heart rate u8, M metabolic equivalent u8, T elapsed u16, R remaining u16."
+abbrev pub H : List (ℕ × Width)
+H = heart-rate u8
+
+abbrev pub M : List (ℕ × Width)
+M = metabolic-equivalent u8
+
+abbrev pub T : List (ℕ × Width)
+T = elapsed u16
+
+abbrev pub R : List (ℕ × Width)
+R = remaining u16
+
+-- "Slope is inclination s16, in tenths of a percent, then ramp angle s16, in tenths of a degree."
+abbrev pub slope : List (ℕ × Width)
+slope = inclination s16 and ramp-angle s16
+
+-- "Gain is positive u16, then negative u16."
+abbrev pub gain : List (ℕ × Width)
+gain = positive-gain u16 and negative-gain u16
+
+-- ---- kinds
+
+-- the rows of a group that a bit names
+abbrev pub rows-of : ℕ → List (ℕ × Width) → List Row
+rows-of bit [] = []
+rows-of bit (x ∷ fields) = at bit (x .0) (x .1) ∷ rows-of bit fields
+
+-- the rows of groups, one bit after the other: "in ascending bit order"
+abbrev pub in-turn : ℕ → List (List (ℕ × Width)) → List Row
+in-turn bit [] = []
+in-turn bit (group ∷ groups) = rows-of bit group ++ in-turn (suc bit) groups
+
+-- a line of the table, "kind | main | bits 1, 2, 3 ..": the main group, which bit 0 stands for, and the groups of the bits from 1 up
+abbrev pub line : List (ℕ × Width) → List (List (ℕ × Width)) → List Row
+line main groups = in-turn 0 (main ∷ groups)
+
+-- "1 treadmill"
 unfoldable pub treadmill : List Row
 treadmill =
-    at 0 speed U16 ∷
-    at 1 average-speed U16 ∷
-    at 2 distance U24 ∷
-    at 3 inclination S16 ∷
-    at 3 ramp-angle S16 ∷
-    at 4 positive-gain U16 ∷
-    at 4 negative-gain U16 ∷
-    at 5 pace U8 ∷
-    at 6 average-pace U8 ∷
-    at 7 total-energy U16 ∷
-    at 7 energy-per-hour U16 ∷
-    at 7 energy-per-minute U8 ∷
-    at 8 heart-rate U8 ∷
-    at 9 metabolic-equivalent U8 ∷
-    at 10 elapsed U16 ∷
-    at 11 remaining U16 ∷
-    at 12 belt-force S16 ∷
-    at 12 power-output S16 ∷ []
+    line (speed u16)
+    (average-speed u16 ∷ distance u24 ∷ slope ∷ gain ∷ pace u8 ∷ average-pace u8 ∷ E ∷ H ∷ M ∷ T ∷ R ∷ belt-force s16 and power-output s16 ∷ [])
 
+-- "2 cross trainer"
 unfoldable pub cross-trainer : List Row
 cross-trainer =
-    at 0 speed U16 ∷
-    at 1 average-speed U16 ∷
-    at 2 distance U24 ∷
-    at 3 step-rate U16 ∷
-    at 3 average-step-rate U16 ∷
-    at 4 stride-count U16 ∷
-    at 5 positive-gain U16 ∷
-    at 5 negative-gain U16 ∷
-    at 6 inclination S16 ∷
-    at 6 ramp-angle S16 ∷
-    at 7 resistance S16 ∷
-    at 8 power S16 ∷
-    at 9 average-power S16 ∷
-    at 10 total-energy U16 ∷
-    at 10 energy-per-hour U16 ∷
-    at 10 energy-per-minute U8 ∷
-    at 11 heart-rate U8 ∷
-    at 12 metabolic-equivalent U8 ∷
-    at 13 elapsed U16 ∷
-    at 14 remaining U16 ∷ []
+    line (speed u16)
+    (average-speed u16 ∷ distance u24 ∷ step-rate u16 and average-step-rate u16 ∷ stride-count u16 ∷ gain ∷ slope ∷
+    resistance s16 ∷ power s16 ∷ average-power s16 ∷ E ∷ H ∷ M ∷ T ∷ R ∷ [])
 
+-- "3 step climber"
 unfoldable pub step-climber : List Row
-step-climber =
-    at 0 floors U16 ∷
-    at 0 steps U16 ∷
-    at 1 step-rate U16 ∷
-    at 2 average-step-rate U16 ∷
-    at 3 positive-gain U16 ∷
-    at 4 total-energy U16 ∷
-    at 4 energy-per-hour U16 ∷
-    at 4 energy-per-minute U8 ∷
-    at 5 heart-rate U8 ∷
-    at 6 metabolic-equivalent U8 ∷
-    at 7 elapsed U16 ∷
-    at 8 remaining U16 ∷ []
+step-climber = line (floors u16 and steps u16) (step-rate u16 ∷ average-step-rate u16 ∷ positive-gain u16 ∷ E ∷ H ∷ M ∷ T ∷ R ∷ [])
 
+-- "4 stair climber"
 unfoldable pub stair-climber : List Row
-stair-climber =
-    at 0 floors U16 ∷
-    at 1 step-rate U16 ∷
-    at 2 average-step-rate U16 ∷
-    at 3 positive-gain U16 ∷
-    at 4 stride-count U16 ∷
-    at 5 total-energy U16 ∷
-    at 5 energy-per-hour U16 ∷
-    at 5 energy-per-minute U8 ∷
-    at 6 heart-rate U8 ∷
-    at 7 metabolic-equivalent U8 ∷
-    at 8 elapsed U16 ∷
-    at 9 remaining U16 ∷ []
+stair-climber = line (floors u16) (step-rate u16 ∷ average-step-rate u16 ∷ positive-gain u16 ∷ stride-count u16 ∷ E ∷ H ∷ M ∷ T ∷ R ∷ [])
 
+-- "5 rower"
 unfoldable pub rower : List Row
 rower =
-    at 0 stroke-rate U8 ∷
-    at 0 stroke-count U16 ∷
-    at 1 average-stroke-rate U8 ∷
-    at 2 distance U24 ∷
-    at 3 pace U16 ∷
-    at 4 average-pace U16 ∷
-    at 5 power S16 ∷
-    at 6 average-power S16 ∷
-    at 7 resistance S16 ∷
-    at 8 total-energy U16 ∷
-    at 8 energy-per-hour U16 ∷
-    at 8 energy-per-minute U8 ∷
-    at 9 heart-rate U8 ∷
-    at 10 metabolic-equivalent U8 ∷
-    at 11 elapsed U16 ∷
-    at 12 remaining U16 ∷ []
+    line (stroke-rate u8 and stroke-count u16)
+    (average-stroke-rate u8 ∷ distance u24 ∷ pace u16 ∷ average-pace u16 ∷ power s16 ∷ average-power s16 ∷ resistance s16 ∷
+    E ∷ H ∷ M ∷ T ∷ R ∷ [])
 
+-- "6 indoor bike"
 unfoldable pub indoor-bike : List Row
 indoor-bike =
-    at 0 speed U16 ∷
-    at 1 average-speed U16 ∷
-    at 2 cadence U16 ∷
-    at 3 average-cadence U16 ∷
-    at 4 distance U24 ∷
-    at 5 resistance S16 ∷
-    at 6 power S16 ∷
-    at 7 average-power S16 ∷
-    at 8 total-energy U16 ∷
-    at 8 energy-per-hour U16 ∷
-    at 8 energy-per-minute U8 ∷
-    at 9 heart-rate U8 ∷
-    at 10 metabolic-equivalent U8 ∷
-    at 11 elapsed U16 ∷
-    at 12 remaining U16 ∷ []
+    line (speed u16)
+    (average-speed u16 ∷ cadence u16 ∷ average-cadence u16 ∷ distance u24 ∷ resistance s16 ∷ power s16 ∷ average-power s16 ∷
+    E ∷ H ∷ M ∷ T ∷ R ∷ [])
 
 -- the tables by kind: a seventh kind is one more
 unfoldable pub tables : List (List Row)
