@@ -8,3 +8,5 @@ pub mod Record
 pub mod Notification
 pub mod Split
 pub mod Parts
+pub mod Order
+pub mod Samples
