@@ -1,15 +1,17 @@
 -- What a part does to a collection, case by case.
 use Prim.Native.Nat.{ℕ}
-use mathlib.Core.Path.{_≡_, ap}
+use mathlib.Core.Path.{_≡_, refl, ap}
 use mathlib.Core.Bool.{Bool, true, false, cond}
 use mathlib.Core.List.{List}
 use lib.Bits.{bitOr}
+use lib.Dec.{leb}
 use Rattle.record.specs.declared.notification.Part.{Part}
 use Rattle.record.specs.Answer.{Answer, given, after}
 use Rattle.record.specs.Notification.{part-of, joined, held-after}
 use Rattle.record.specs.Record.{of-wire}
 use Rattle.service.specs.declared.collector.Collection.{Collection}
-use Rattle.service.specs.Collector.{waiting, handed, zeros, collection, empty, incomplete, outside, drops, refuses, joins, collect}
+use Rattle.service.specs.declared.collector.Told.{Told}
+use Rattle.service.specs.Collector.{waiting, handed, zeros, collection, empty, incomplete, outside, drops, after-refusal, refuses, joins, collect}
 
 -- the numbers after a notification that is read
 pub read-joins : (kind : ℕ) (s v : List ℕ) (p : Part) → part-of kind s ≡ given p → held-after kind s v ≡ joined kind s v
@@ -35,6 +37,15 @@ module _ (c : Collection) (p : Part) (s : List ℕ) (dropped : Bool) where
       joins c p s dropped ≡ record { said = handed (of-wire (c .kind) held-now (p .direction) numbers-now) dropped; next = empty (c .kind) (c .told) }
   unfolding joins
   hands l i = rw (l, i)
+
+-- the collection after a refusal, by the held groups and the numbers after it
+pub refused-after : (k : ℕ) (t : Told) (h : ℕ) (v : List ℕ) (n : ℕ) →
+    collection k t (cond (leb n 22) h 0) (cond (leb n 22) v zeros) ≡ after-refusal (collection k t h v) n
+refused-after k t h v n = either (leb n 22)
+  where
+    either : (b : Bool) → collection k t (cond b h 0) (cond b v zeros) ≡ cond b (collection k t h v) (empty k t)
+    either true = refl
+    either false = refl
 
 module _ (c : Collection) (s : List ℕ) where
   pub not-read : (n : ℕ) → part-of (c .kind) s ≡ Rattle.record.specs.Answer.refused n → collect c s ≡ refuses c n

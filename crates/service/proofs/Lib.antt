@@ -1,4 +1,5 @@
 pub mod Lowest
+pub mod Sentence
 pub mod Joining
 pub mod CollectorOnce
 pub mod ControlLaws

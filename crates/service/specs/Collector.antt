@@ -78,9 +78,13 @@ incomplete Open held = false
 incomplete (Fixed told) held = not (eqb held told)
 
 module _ (c : Collection) where
-  -- "a refusal says yes exactly when any were held before it"; "A refusal 30 to 34 leaves nothing held."
+  -- "10 to 22 leave the state unchanged.": here 11, of a collection made by hand whose kind is none. "A refusal 30 to 34 leaves nothing held."
+  abbrev pub after-refusal : ℕ → Collection
+  after-refusal n = cond (leb n 22) c (empty (c .kind) (c .told))
+
+  -- "a refusal says yes exactly when any were held before it"
   abbrev pub refuses : ℕ → Stepped
-  refuses n = record { said = refused n (not (eqb (c .held) 0)); next = empty (c .kind) (c .told) }
+  refuses n = record { said = refused n (not (eqb (c .held) 0)); next = after-refusal n }
 
   -- "Its groups join the held ones. With More Data 1 the answer is "waiting". With More Data 0: .. refusal 34; otherwise the record, with the last
   -- part's direction. Nothing is held after either."
@@ -97,7 +101,7 @@ module _ (c : Collection) where
   abbrev pub takes : Part → List ℕ → Stepped
   takes p s = cond (outside (c .told) (p .groups)) (refuses 33) (joins p s (drops (c .told) (c .held) (p .groups)))
 
-  -- what a collection answers to a notification: 30 to 32 as the record layer judges them, then 33, then the rules
+  -- what a collection answers to a notification: 11 and 30 to 32 as the record layer judges them, then 33, then the rules
   abbrev pub answers-to : Answer Part → List ℕ → Stepped
   answers-to (Answer.refused n) s = refuses n
   answers-to (given p) s = takes p s

@@ -12,7 +12,7 @@ use record::record::Record;
 use record::refusal::Refusal;
 ghost use mathlib.Core.Path.{_≡_};
 ghost use mathlib.Core.Bool.{cond, not};
-ghost use lib.Dec.{eqb};
+ghost use lib.Dec.{eqb, leb};
 ghost use Rattle.record.specs.Answer.{given};
 ghost use Rattle.record.specs.Notification.{part-of};
 ghost use Rattle.record.specs.Refusal.{number-of};
@@ -161,17 +161,19 @@ fn left(dropped: bool, held: u32, numbers: &mut [u32; 31]) -> u32
     held
 }
 
-// A refusal: nothing is held after it, and it says whether anything was held before.
+// A refusal, which says whether anything was held before it: "10 to 22 leave the state unchanged", and after any other nothing is held.
 fn refuse(refusal: Refusal, held: u32, numbers: &mut [u32; 31]) -> Taken
-    ensures { λ r. ⌜ (meant (r .answer) ≡ refused (number-of refusal) (not (eqb held 0))) × (r .held ≡ 0) × (now (numbers .exit) ≡ zeros) ⌝ }
+    ensures { λ r. ⌜ (meant (r .answer) ≡ refused (number-of refusal) (not (eqb held 0))) × (r .held ≡ cond (leb (number-of refusal) 22) held 0) ⌝ }
+    ensures { λ r. ⌜ now (numbers .exit) ≡ cond (leb (number-of refusal) 22) (now (numbers .entry)) zeros ⌝ }
 {
-    *numbers = [0u32; 31];
     let dropped = held != 0;
-    let none: u32 = 0;
-    Taken {
-        answer: Collected::Refused { refusal, dropped },
-        held: none,
+    let answer = Collected::Refused { refusal, dropped };
+    if refusal.number() <= 22 {
+        return Taken { answer, held };
     }
+    *numbers = [0u32; 31];
+    let none: u32 = 0;
+    Taken { answer, held: none }
 }
 
 // A part that is read joins what is left of the held groups: waiting, refusal 34, or the record.

@@ -72,8 +72,8 @@ returns-2 c =
     let s = l .before .before .before .before in
     let e =
     sym (lacks (before s) (s .args .part) (octets s) (drop? s) (not-false _ (i .before .if1 .left)) (sym (judged i) ∙ t .if2 .taken)) in (
-      c .refuse .ensures .0 ∙ ap (λ (x : Stepped). x .said) e,
-      ap₂ (collection (s .args .kind) (s .args .told)) (c .refuse .ensures .1) (c .refuse .ensures .2) ∙ ap (λ (x : Stepped). x .next) e,
+      c .refuse .ensures .0 .0 ∙ ap (λ (x : Stepped). x .said) e,
+      ap₂ (collection (s .args .kind) (s .args .told)) (c .refuse .ensures .0 .1) (c .refuse .ensures .1) ∙ ap (λ (x : Stepped). x .next) e,
     )
 
 returns-3 : tie.Need-returns-3

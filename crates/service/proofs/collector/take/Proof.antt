@@ -9,7 +9,7 @@ use Rattle.record.specs.Notification as Notification
 use Rattle.record.specs.Refusal.{number-of}
 use Rattle.service.specs.declared.collector.Collection.{Collection}
 use Rattle.service.specs.Collector.{Stepped, collection}
-use Rattle.service.proofs.Joining.{not-read, not-told, taken}
+use Rattle.service.proofs.Joining.{refused-after, not-read, not-told, taken}
 use Rattle.service.proofs.collector.take.Statement.{statement}
 use Rattle.service.proofs.collector.take.Tie as tie
 
@@ -34,8 +34,8 @@ returns c =
     let p = t .before .before .before in
     let s = p .before .before .before .before in
     let e = sym (not-told (before s) (octets s) (p .part .given .0 .0) (is-read p) (sym (t .before .outside .ensures) ∙ t .if1 .taken)) in (
-      c .refuse2 .ensures .0 ∙ ap (λ (x : Stepped). x .said) e,
-      ap₂ (collection (s .args .kind) (s .args .told)) (c .refuse2 .ensures .1) (c .refuse2 .ensures .2) ∙ ap (λ (x : Stepped). x .next) e,
+      c .refuse2 .ensures .0 .0 ∙ ap (λ (x : Stepped). x .said) e,
+      ap₂ (collection (s .args .kind) (s .args .told)) (c .refuse2 .ensures .0 .1) (c .refuse2 .ensures .1) ∙ ap (λ (x : Stepped). x .next) e,
     )
 
 join-requires : tie.Need-join-requires
@@ -47,8 +47,10 @@ returns-2 c =
     let s = r .before .before .before .before in
     let n = sym (r .before .before .part-of .ensures) ∙ ap Notification.meant (r .refusal .given .1) in
     let e = sym (not-read (before s) (octets s) (number-of (r .refusal .given .0 .0)) n) in (
-      c .refuse .ensures .0 ∙ ap (λ (x : Stepped). x .said) e,
-      ap₂ (collection (s .args .kind) (s .args .told)) (c .refuse .ensures .1) (c .refuse .ensures .2) ∙ ap (λ (x : Stepped). x .next) e,
+      c .refuse .ensures .0 .0 ∙ ap (λ (x : Stepped). x .said) e,
+      ap₂ (collection (s .args .kind) (s .args .told)) (c .refuse .ensures .0 .1) (c .refuse .ensures .1)
+          ∙ refused-after (s .args .kind) (s .args .told) (s .args .held) (now (s .args .numbers)) (number-of (r .refusal .given .0 .0))
+          ∙ ap (λ (x : Stepped). x .next) e,
     )
 
 returns-3 : tie.Need-returns-3
