@@ -1,13 +1,15 @@
 -- Demand 2: a record, split and collected, comes back.
 use Prim.Native.Nat.{ℕ, suc, _+_, _*_, _-_, _%_, _^_, _≤_}
-use mathlib.Core.Path.{_≡_, refl, sym, ap, _∙_, subst}
+use mathlib.Core.Path.{_≡_, refl, sym, ap, _∙_, subst, subst₂}
 use mathlib.Core.Logic.{_⊎_, inl, inr}
-use mathlib.Core.Bool.{false}
+use mathlib.Core.Bool.{true, false}
 use mathlib.Core.List.{List, [], _∷_, _++_}
 use native.Mathlib.Omega.{arith}
 use lib.Bits.{bitOr}
 use lib.ListN.{length, replicate}
+use Rattle.record.specs.declared.record.Record.{Record}
 use Rattle.record.specs.Groups.{flags-octets, set-length}
+use Rattle.record.specs.Split.{payload-known}
 use Rattle.record.proofs.Tables.{flags-most}
 use Rattle.record.proofs.Cuts.{Cuts, whole, more}
 use Rattle.record.proofs.Parts.{octets-length}
@@ -15,12 +17,13 @@ use Rattle.service.specs.declared.collector.Told.{Told}
 use Rattle.service.specs.declared.collector.Told.the-variants.{Open, Fixed}
 use Rattle.service.specs.declared.collector.Collection.{Collection}
 use Rattle.service.specs.Collector.{Said, waiting, handed, Stepped, zeros, collect, empty}
-use Rattle.demands.specs.Behaviour.{Splitter, says, SplitsAsPromised, CollectsAsPromised, collector-of}
-use Rattle.demands.specs.Demands.{Short, Demand2}
+use Rattle.demands.specs.Behaviour.{Splitter, buffer, parts-of, says, SplitsAsPromised, CollectsAsPromised, collector-of}
+use Rattle.demands.specs.Demands.{Good, Short, Splits, Demand2}
 use Rattle.demands.proofs.Dropping.{Ready, ready-open, ready-fixed}
 use Rattle.demands.proofs.Taken.{Sent, sent, part, parts, with-numbers, holding}
 use Rattle.demands.proofs.Held.{Held, held-none, held-next, whole-first, whole-next, goes-on, hands, record-cuts}
-use Rattle.demands.proofs.Pieces.{splitter, collector, is-splitter, is-collector, low, high, pieces-are}
+use Rattle.demands.proofs.Pieces.{splitter, collector, is-splitter, is-collector, answered, piece-is, low, high, pieces-are}
+use Rattle.demands.proofs.Emptied.{emptied}
 
 -- waiting some times, then the record
 abbrev pub Comes : Sent → List Said → Type 0
@@ -60,13 +63,19 @@ ready-if : (groups : ℕ) (t : Told) → (t ≡ Open) ⊎ (t ≡ Fixed groups) �
 ready-if groups t (inl e) = rw e ready-open
 ready-if groups t (inr e) = rw e ready-fixed
 
+pub ours-splits : (payload : ℕ) → payload-known payload ≡ true → (r : Record) → Good r → Splits splitter payload r
+ours-splits payload p r w = record {
+  counts = λ i h. ap parts-of (answered r (w .formed) payload p i 512 h (omega arith));
+  written = λ i h. piece-is r (w .formed) payload p i h buffer (omega arith);
+  short = subst (Short payload) (sym (pieces-are r w payload p))
+      (parts-short (sent r w) payload (low r w payload p) (high r w payload p) (record-cuts (sent r w) payload (low r w payload p)));
+}
+
 pub ours-two : Demand2 splitter collector
 ours-two = record {
-  short = λ payload p r w.
-      subst (Short payload) (sym (pieces-are r w payload p))
-      (parts-short (sent r w) payload (low r w payload p) (high r w payload p) (record-cuts (sent r w) payload (low r w payload p)));
-  comes-back = λ payload p r w t told.
-      subst (λ (l : List (List ℕ)). Comes (sent r w) (says collector (empty (r .kind) t) l)) (sym (pieces-are r w payload p))
+  splits = ours-splits;
+  comes-back = λ payload p r w t told state e.
+      subst₂ (λ (c : Collection) (l : List (List ℕ)). Comes (sent r w) (says collector c l)) (sym (emptied (r .kind) t e)) (sym (pieces-are r w payload p))
       (comes (sent r w) payload (low r w payload p) (high r w payload p) (record-cuts (sent r w) payload (low r w payload p)) t (ready-if (r .groups) t told) 0 zeros
       (held-none (sent r w)) (whole-first (sent r w)));
 }

@@ -2,6 +2,7 @@ pub mod Dropping
 pub mod Taken
 pub mod Held
 pub mod Pieces
+pub mod Emptied
 pub mod DemandTwo
 pub mod Counted
 pub mod Streams

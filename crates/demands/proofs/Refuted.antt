@@ -20,7 +20,7 @@ use Rattle.service.specs.declared.collector.Told.{Told}
 use Rattle.service.specs.declared.collector.Told.the-variants.{Open, Fixed}
 use Rattle.service.specs.Collector.{Said, waiting, handed, refused, empty, joins, collect}
 use Rattle.demands.specs.Behaviour.{Splitter, Collector, buffer, length-of, parts-of, each, piece, pieces, says, heard}
-use Rattle.demands.specs.Demands.{Waits, Hands, Incomplete, all-true, last-of, Faithful, AllFaithful, Alike, Chunks, Demand2, Demand3}
+use Rattle.demands.specs.Demands.{Good, opened, Waits, Hands, Incomplete, all-true, last-of, Faithful, AllFaithful, Alike, Chunks, Demand2, Demand3}
 use Rattle.demands.proofs.Pieces.{splitter, collector}
 use Rattle.demands.proofs.Samples.{bike, bike-octets, bike-1, bike-2}
 
@@ -57,6 +57,10 @@ said-once m n x r e =
 bikes-differ : bike 1 ≡ bike 2 → ⊥
 bikes-differ e = let z : _≡_ {A = ℕ} 1 2 = ap (λ (r : Record). r .speed) e in omega arith
 
+-- what demand 2 says of a record at payload 20, collected openly from the opening
+from-opening : (s : Splitter) (c : Collector) → Demand2 s c → (r : Record) → Good r → (n : ℕ) × (says c (c .opened (r .kind) Open) (pieces s 20 r) ≡ answers n r)
+from-opening s c h r w = h .comes-back 20 refl r w Open (inl refl) (c .opened (r .kind) Open) opened
+
 -- a collector with a constant record, whatever the splitter
 module _ (S : Type 0) (opened : ℕ → Told → S) (x : Record) (d : Bool) where
   abbrev pub constant : Collector
@@ -69,8 +73,8 @@ module _ (S : Type 0) (opened : ℕ → Told → S) (x : Record) (d : Bool) wher
 
   pub not-constant : (s : Splitter) → Demand2 s constant → ⊥
   not-constant s h =
-      let a : (n : ℕ) × (says constant (opened 6 Open) (pieces s 20 (bike 1)) ≡ answers n (bike 1)) = h .comes-back 20 refl (bike 1) (bike-1 .is-good) Open (inl refl) in
-      let b : (n : ℕ) × (says constant (opened 6 Open) (pieces s 20 (bike 2)) ≡ answers n (bike 2)) = h .comes-back 20 refl (bike 2) (bike-2 .is-good) Open (inl refl) in
+      let a : (n : ℕ) × (says constant (opened 6 Open) (pieces s 20 (bike 1)) ≡ answers n (bike 1)) = from-opening s constant h (bike 1) (bike-1 .is-good) in
+      let b : (n : ℕ) × (says constant (opened 6 Open) (pieces s 20 (bike 2)) ≡ answers n (bike 2)) = from-opening s constant h (bike 2) (bike-2 .is-good) in
       bikes-differ (sym (constantly (opened 6 Open) (pieces s 20 (bike 1)) (a .0) (bike 1) (a .1)) ∙ constantly (opened 6 Open) (pieces s 20 (bike 2)) (b .0) (bike 2) (b .1))
 
 -- a splitter that writes nothing and answers as ours, whatever the collector
@@ -91,8 +95,8 @@ silent-piece answer e =
 
 pub not-silent : (c : Collector) → Demand2 silent c → ⊥
 not-silent c h =
-    let a : (n : ℕ) × (says c (c .opened 6 Open) (pieces silent 20 (bike 1)) ≡ answers n (bike 1)) = h .comes-back 20 refl (bike 1) (bike-1 .is-good) Open (inl refl) in
-    let b : (n : ℕ) × (says c (c .opened 6 Open) (pieces silent 20 (bike 2)) ≡ answers n (bike 2)) = h .comes-back 20 refl (bike 2) (bike-2 .is-good) Open (inl refl) in
+    let a : (n : ℕ) × (says c (c .opened 6 Open) (pieces silent 20 (bike 1)) ≡ answers n (bike 1)) = from-opening silent c h (bike 1) (bike-1 .is-good) in
+    let b : (n : ℕ) × (says c (c .opened 6 Open) (pieces silent 20 (bike 2)) ≡ answers n (bike 2)) = from-opening silent c h (bike 2) (bike-2 .is-good) in
     let e : pieces silent 20 (bike 1) ≡ pieces silent 20 (bike 2) =
     silent-piece (λ i. split-of (bike 1) 20 i 512) (bike-answers .0) ∙ sym (silent-piece (λ i. split-of (bike 2) 20 i 512) (bike-answers .1)) in
     bikes-differ (said-once (a .0) (b .0) (bike 1) (bike 2) (sym (a .1) ∙ ap (says c (c .opened 6 Open)) e ∙ b .1))
@@ -141,7 +145,7 @@ first-left = refl
 pub not-inventing : (f : ℕ → ℕ) → (f 1 ≡ 1 → ⊥) → Demand2 (inventing f) collector → ⊥
 not-inventing f g h =
     let a : (n : ℕ) × (says collector (empty 6 Open) (pieces (inventing f) 20 (bike 1)) ≡ answers n (bike 1)) =
-    h .comes-back 20 refl (bike 1) (bike-1 .is-good) Open (inl refl) in
+    from-opening (inventing f) collector h (bike 1) (bike-1 .is-good) in
     g (sym (claimed-parts f (split-of (bike 1) 20 0 512) (bike-answers .0))
     ∙ one-claimed (parts-of (claimed f (split-of (bike 1) 20 0 512))) (a .0) (piece (inventing f) 20 (bike 1))
     (claimed-piece f (split-of (bike 1) 20 0 512) (lent-after (bike 1) 20 0 buffer) (bike-answers .0) ∙ first-left) (a .1))
@@ -184,10 +188,11 @@ module _ (c : Collector) where
       let g : Twice (bike-octets 1 ∷ []) = subst Twice (bike-1 .spells) f in
       (one-part (bike 1) (c .step (c .opened 6 (Fixed 0)) (bike-octets 1) .0) (g .0), one-part (bike 1) (c .step (c .step (c .opened 6 (Fixed 0)) (bike-octets 1) .1) (bike-octets 1) .0) (g .1 .0))
 
--- a collector that only refuses
-pub not-refusing : (S : Type 0) (opened : ℕ → Told → S) (n : ℕ) (d : Bool) →
-    Demand3 splitter (record { State = S; opened = opened; step = λ c s. (refused n d, c) }) → ⊥
-not-refusing S opened n d h = not-handed (bike 1) n d (bike-twice (record { State = S; opened = opened; step = λ c s. (refused n d, c) }) h .0)
+-- a collector all of whose answers are refusals, whichever numbers and flags
+pub not-refusing : (c : Collector) → ((state : c .State) (s : List ℕ) → (n : ℕ) × (d : Bool) × (c .step state s .0 ≡ refused n d)) → Demand3 splitter c → ⊥
+not-refusing c refuses h =
+    let x : (n : ℕ) × (d : Bool) × (c .step (c .opened 6 (Fixed 0)) (bike-octets 1) .0 ≡ refused n d) = refuses (c .opened 6 (Fixed 0)) (bike-octets 1) in
+    not-handed (bike 1) (x .0) (x .1) (subst (Hands (bike 1)) (x .2) (bike-twice c h .0))
 
 -- one that is as any other and only waits after its first record
 abbrev is-handed : Said → Bool

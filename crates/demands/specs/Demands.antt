@@ -7,11 +7,11 @@ use mathlib.Core.List.{List, [], _∷_, _++_}
 use lib.ListN.{length, replicate}
 use Rattle.record.specs.declared.record.Record.{Record}
 use Rattle.record.specs.Record.{well-formed, Typed}
-use Rattle.record.specs.Split.{payload-known}
+use Rattle.record.specs.Split.{payload-known, sets-of, part-octets}
 use Rattle.service.specs.declared.collector.Told.{Told}
 use Rattle.service.specs.declared.collector.Told.the-variants.{Open, Fixed}
 use Rattle.service.specs.Collector.{Said, waiting, handed, refused}
-use Rattle.demands.specs.Behaviour.{Splitter, Collector, pieces, heard, says}
+use Rattle.demands.specs.Behaviour.{Splitter, Collector, buffer, parts-of, piece, pieces, heard, says}
 
 -- a record that is well formed; each of its fields is a value of its type, as every record that runs is
 pub record Good (r : Record) : Type 0 where
@@ -23,16 +23,47 @@ unfoldable pub Short : ℕ → List (List ℕ) → Type 0
 Short n [] = Unit {0}
 Short n (s ∷ ss) = (length s ≤ n) × Short n ss
 
--- "Any well-formed record, split at any payload from 20 to 512 and collected by a collector of its kind (and set, where told) that holds nothing,
--- comes back equal": every part but the last is answered "waiting", the last with the record, and nothing was dropped.
+-- how many parts a record has at a payload, as document 01 splits it
+abbrev pub count : Record → ℕ → ℕ
+count r payload = length (sets-of (r .kind) (r .groups) payload)
+
+-- ---- a collector "that holds nothing"
+
+-- the states to which notifications lead from an opening
+pub data Reached (c : Collector) (kind : ℕ) (told : Told) : c .State → Type 0 where
+  at-first : Reached c kind told (c .opened kind told)
+  then : {state : c .State} → Reached c kind told state → (s : List ℕ) → Reached c kind told (c .step state s .1)
+
+-- it was just opened, or has just answered with a record or with a refusal: "Nothing is held after either." "A refusal 30 to 34 leaves nothing held."
+pub data Empty (c : Collector) (kind : ℕ) (told : Told) : c .State → Type 0 where
+  opened : Empty c kind told (c .opened kind told)
+  after-record : {state : c .State} → Reached c kind told state → (s : List ℕ) (r : Record) (d : Bool) → c .step state s .0 ≡ handed r d →
+      Empty c kind told (c .step state s .1)
+  after-refusal : {state : c .State} → Reached c kind told state → (s : List ℕ) (n : ℕ) (d : Bool) → 30 ≤ n → n ≤ 34 →
+      c .step state s .0 ≡ refused n d → Empty c kind told (c .step state s .1)
+
+-- ---- demand 2
+
+-- "The answer for part i, counted from 0, is its octets, its length and the number of parts": every answer to a part says how many there are, and a
+-- part's octets are "a flags field, then the groups named by its bits, in ascending bit order, least octet first", by document 01's layouts.
+pub record Splits (s : Splitter) (payload : ℕ) (r : Record) : Type 0 where
+  pub counts : (i : ℕ) → i < count r payload → parts-of (s .answer r payload i buffer) ≡ count r payload
+  pub written : (i : ℕ) → i < count r payload → piece s payload r i ≡ part-octets r payload i
+  pub short : Short payload (pieces s payload r)
+
+-- "Records .. are those of Fitness Machine Service 1.0 with document 01's layouts and order. Any well-formed record, split at any payload from 20 to
+-- 512 and collected by a collector of its kind (and set, where told) that holds nothing, comes back equal": every part but the last is answered
+-- "waiting", the last with the record, and nothing was dropped.
 pub record Demand2 (s : Splitter) (c : Collector) : Type 0 where
-  pub short : (payload : ℕ) → payload-known payload ≡ true → (r : Record) → Good r → Short payload (pieces s payload r)
+  pub splits : (payload : ℕ) → payload-known payload ≡ true → (r : Record) → Good r → Splits s payload r
   pub comes-back : (payload : ℕ) → payload-known payload ≡ true → (r : Record) → Good r → (told : Told) → (told ≡ Open) ⊎ (told ≡ Fixed (r .groups)) →
-      (n : ℕ) × (says c (c .opened (r .kind) told) (pieces s payload r) ≡ replicate n (waiting false) ++ (handed r false ∷ []))
+      (state : c .State) → Empty c (r .kind) told state →
+      (n : ℕ) × (says c state (pieces s payload r) ≡ replicate n (waiting false) ++ (handed r false ∷ []))
 
 -- ---- demand 3
 
--- nothing is handed out: only waiting
+-- nothing is handed out and nothing is refused. Demand 3 asks only that nothing is handed out at such a notification; this asks more, that it is
+-- answered "waiting", which ours does: no part of a record of the told set is refused but the last.
 unfoldable pub Waits : List Said → Type 0
 Waits [] = Unit {0}
 Waits (waiting d ∷ said) = Waits said

@@ -1,0 +1,111 @@
+-- Ours holds nothing after a record and after a refusal 30 to 34: its state is then the one that it was opened with.
+use Prim.Native.Nat.{ℕ, _<_, _≤_}
+use mathlib.Core.Path.{_≡_, refl, sym, ap, ap₂, _∙_}
+use mathlib.Core.Bool.{Bool, true, false, cond}
+use mathlib.Core.List.{List}
+use native.Mathlib.Omega.{arith}
+use lib.Bits.{bitOr}
+use lib.Dec.{leb}
+use Rattle.record.specs.declared.notification.Part.{Part}
+use Rattle.record.specs.declared.record.Record.{Record}
+use Rattle.record.specs.Answer.{Answer, given}
+use Rattle.record.specs.Answer as Answer
+use Rattle.record.specs.Notification.{part-of, joined}
+use Rattle.record.specs.Record.{of-wire}
+use Rattle.record.proofs.Tests.{leb-false}
+use Rattle.service.specs.declared.collector.Told.{Told}
+use Rattle.service.specs.declared.collector.Collection.{Collection}
+use Rattle.service.specs.Collector.{Said, waiting, handed, refused, Stepped, zeros, collection, empty, drops, outside, incomplete, after-refusal, refuses, joins, takes, answers-to, collect}
+use Rattle.demands.specs.Demands.{Reached, at-first, then, Empty, opened, after-record, after-refusal as refusing}
+use Rattle.demands.proofs.Pieces.{collector}
+
+-- what a step leaves: the kind and what was told stay; after a record nothing is held, and after a refusal 30 to 34 neither
+record Leaves (c : Collection) (x : Stepped) : Type 0 where
+  same-kind : x .next .kind ≡ c .kind
+  same-told : x .next .told ≡ c .told
+  after-handed : (r : Record) (d : Bool) → x .said ≡ handed r d → x .next ≡ empty (c .kind) (c .told)
+  after-refused : (n : ℕ) (d : Bool) → 30 ≤ n → x .said ≡ refused n d → x .next ≡ empty (c .kind) (c .told)
+
+apart : {A : Type 0} {a b : Said} (f : Said → ℕ) → a ≡ b → (f a ≡ f b → ⊥) → A
+apart f e n = absurd (n (ap f e))
+
+-- the case of an answer, and the number of a refusal
+abbrev tag : Said → ℕ
+tag (waiting d) = 0
+tag (handed r d) = 1
+tag (refused n d) = 2
+
+abbrev number-in : Said → ℕ
+number-in (waiting d) = 0
+number-in (handed r d) = 0
+number-in (refused n d) = n
+
+module _ (c : Collection) where
+  leaves-refusal : (n : ℕ) → Leaves c (refuses c n)
+  leaves-refusal n = record {
+    same-kind = kind-after (leb n 22);
+    same-told = told-after (leb n 22);
+    after-handed = λ r d e. apart tag e (λ z. omega arith);
+    after-refused = λ m d h e.
+        let i : n ≡ m = ap number-in e in
+        ap (λ (b : Bool). cond b c (empty (c .kind) (c .told))) (leb-false {m = n} {n = 22} (omega arith));
+  }
+    where
+      kind-after : (b : Bool) → cond b c (empty (c .kind) (c .told)) .kind ≡ c .kind
+      kind-after true = refl
+      kind-after false = refl
+
+      told-after : (b : Bool) → cond b c (empty (c .kind) (c .told)) .told ≡ c .told
+      told-after true = refl
+      told-after false = refl
+
+  -- a part that joins, by whether it is the last and whether the told set is lacking
+  joined-as : Part → List ℕ → Bool → Bool → Bool → Stepped
+  joined-as p s dropped last lacking =
+      let held : ℕ = bitOr (cond dropped 0 (c .held)) (p .groups) in
+      let v : List ℕ = joined (c .kind) s (cond dropped zeros (c .numbers)) in
+      cond last
+      (cond lacking (refuses c 34)
+      (record { said = handed (of-wire (c .kind) held (p .direction) v) dropped; next = empty (c .kind) (c .told) }))
+      (record { said = waiting dropped; next = collection (c .kind) (c .told) held v })
+
+  leaves-joined : (p : Part) (s : List ℕ) (dropped last lacking : Bool) → Leaves c (joined-as p s dropped last lacking)
+  unfolding joined-as
+  leaves-joined p s dropped true true = leaves-refusal 34
+  leaves-joined p s dropped true false = record {
+    same-kind = refl;
+    same-told = refl;
+    after-handed = λ r d e. refl;
+    after-refused = λ n d h e. refl;
+  }
+  leaves-joined p s dropped false lacking = record {
+    same-kind = refl;
+    same-told = refl;
+    after-handed = λ r d e. apart tag e (λ z. omega arith);
+    after-refused = λ n d h e. apart tag e (λ z. omega arith);
+  }
+
+  leaves-part : (p : Part) (s : List ℕ) (b dropped : Bool) → Leaves c (cond b (refuses c 33) (joins c p s dropped))
+  unfolding joins joined-as
+  leaves-part p s true dropped = leaves-refusal 33
+  leaves-part p s false dropped = leaves-joined p s dropped (p .last) (incomplete (c .told) (bitOr (cond dropped 0 (c .held)) (p .groups)))
+
+  leaves-answer : (a : Answer Part) (s : List ℕ) → Leaves c (answers-to c a s)
+  leaves-answer (Answer.refused n) s = leaves-refusal n
+  leaves-answer (given p) s = leaves-part p s (outside (c .told) (p .groups)) (drops (c .told) (c .held) (p .groups))
+
+  leaves : (s : List ℕ) → Leaves c (collect c s)
+  unfolding collect
+  leaves s = leaves-answer (part-of (c .kind) s) s
+
+module _ (kind : ℕ) (told : Told) where
+  -- whatever has come, kind and what was told are those of the opening
+  pub reached : {c : Collection} → Reached collector kind told c → (c .kind ≡ kind) × (c .told ≡ told)
+  reached at-first = (refl, refl)
+  reached (then {state = c} h s) = (leaves c s .same-kind ∙ reached h .0, leaves c s .same-told ∙ reached h .1)
+
+  -- "Nothing is held after either." "A refusal 30 to 34 leaves nothing held.": the state is the opened one
+  pub emptied : {c : Collection} → Empty collector kind told c → c ≡ empty kind told
+  emptied opened = refl
+  emptied (after-record {state = c} h s r d e) = leaves c s .after-handed r d e ∙ ap₂ empty (reached h .0) (reached h .1)
+  emptied (refusing {state = c} h s n d l m e) = leaves c s .after-refused n d l e ∙ ap₂ empty (reached h .0) (reached h .1)
