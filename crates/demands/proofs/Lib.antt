@@ -9,6 +9,7 @@ pub mod Streams
 pub mod DemandThree
 pub mod Samples
 pub mod Refuted
+pub mod Splitters
 pub mod Mixed
 pub mod Contracts
 pub mod Equal

@@ -3,7 +3,7 @@
 use Prim.Native.Nat.{ℕ, suc, _+_, _<_, _≤_, suc-le-suc}
 use mathlib.Core.Path.{_≡_, refl, sym, ap, ap₂, _∙_}
 use mathlib.Core.Bool.{true}
-use mathlib.Core.List.{List, [], _∷_}
+use mathlib.Core.List.{List, [], _∷_, map}
 use native.Mathlib.Nat.{le-trans}
 use native.Mathlib.Omega.{arith}
 use lib.Dec.{leb}
@@ -45,15 +45,24 @@ is-collector opened said next p =
 
 -- ---- what it writes
 
--- the sets of a list, one after the other
-pub each-of : (r : Sent) (ss : List ℕ) (from : ℕ) (f : ℕ → List ℕ) → ((i : ℕ) → i < length ss → f (from + i) ≡ part r (getD ss i 0)) → each from (length ss) f ≡ parts r ss
-unfolding each parts
-each-of r [] from f h = refl
-each-of r (s ∷ ss) from f h =
+-- what is numbered is what a list has, one after the other
+pub each-map : {A : Type 0} (ss : List ℕ) (from : ℕ) (f g : ℕ → A) → ((i : ℕ) → i < length ss → f (from + i) ≡ g (getD ss i 0)) → each from (length ss) f ≡ map g ss
+unfolding each
+each-map [] from f g h = refl
+each-map (s ∷ ss) from f g h =
     let e : from + 0 ≡ from = omega arith in
     ap₂ _∷_ (ap f (sym e) ∙ h 0 (omega arith))
-    (each-of r ss (suc from) f
+    (each-map ss (suc from) f g
     (λ i l. let e : suc from + i ≡ from + suc i = omega arith in ap f e ∙ h (suc i) (suc-le-suc l)))
+
+pub mapped : (r : Sent) (ss : List ℕ) → parts r ss ≡ map (part r) ss
+unfolding parts
+mapped r [] = refl
+mapped r (s ∷ ss) = ap (λ (l : List (List ℕ)). part r s ∷ l) (mapped r ss)
+
+-- the sets of a list, one after the other
+pub each-of : (r : Sent) (ss : List ℕ) (from : ℕ) (f : ℕ → List ℕ) → ((i : ℕ) → i < length ss → f (from + i) ≡ part r (getD ss i 0)) → each from (length ss) f ≡ parts r ss
+each-of r ss from f h = each-map ss from f (part r) h ∙ sym (mapped r ss)
 
 module _ (r : Record) (w : well-formed r ≡ true) (payload : ℕ) (p : payload-known payload ≡ true) where
   pub least : 20 ≤ payload

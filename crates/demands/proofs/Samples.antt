@@ -20,7 +20,7 @@ use Rattle.service.specs.Collector.{zeros}
 use Rattle.demands.specs.Behaviour.{pieces}
 use Rattle.demands.specs.Demands.{Good}
 use Rattle.demands.proofs.Taken.{Sent, sent, part, parts}
-use Rattle.demands.proofs.Pieces.{splitter, pieces-are}
+use Rattle.demands.proofs.Pieces.{splitter, mapped, pieces-are}
 
 -- a record of numbers that are well formed
 good : (k g d : ℕ) (v : List ℕ) → length v ≡ 31 → formed k g d v ≡ true → Good (of-wire k g d v)
@@ -47,11 +47,6 @@ good k g d v l h =
 pub record Sample (r : Record) (o : List (List ℕ)) : Type 0 where
   pub is-good : Good r
   pub spells : pieces splitter 20 r ≡ o
-
-mapped : (r : Sent) (ss : List ℕ) → parts r ss ≡ map (part r) ss
-unfolding parts
-mapped r [] = refl
-mapped r (s ∷ ss) = ap (λ (l : List (List ℕ)). part r s ∷ l) (mapped r ss)
 
 -- by the sets of its parts, which are computed once
 sample : (k g d : ℕ) (v ss : List ℕ) (o : List (List ℕ)) → length v ≡ 31 → formed k g d v ≡ true → sets-of k g 20 ≡ ss →

@@ -1,5 +1,5 @@
 -- "Numbers to hold against the code": all cases marked P, those of the record layer and that of the control point, as one table.
-use Prim.Native.Nat.{ℕ}
+use Prim.Native.Nat.{ℕ, _≤_}
 use mathlib.Core.Path.{_≡_}
 use mathlib.Core.Bool.{true}
 use mathlib.Core.List.{List, [], _∷_, map}
@@ -8,8 +8,10 @@ use lib.ListN.{length, take}
 use Rattle.record.specs.declared.record.Record.{Record}
 use Rattle.record.specs.Groups.{known, listed, flags-octets}
 use Rattle.record.specs.Octets.{number, signed}
-use Rattle.record.specs.Answer.{refused}
-use Rattle.record.specs.Split.{sets-of, octets, split-of}
+use Rattle.record.specs.Answer.{refused, given}
+use Rattle.record.specs.Record.{well-formed}
+use Rattle.record.specs.Split.{split-of, lent-after}
+use Rattle.demands.specs.Behaviour.{each}
 use Rattle.demands.specs.Control.Cases as Control
 
 pub data Case : Type 0 where
@@ -23,14 +25,16 @@ pub data Case : Type 0 where
   -- calls from opening, and the last answer
   calls : Control.Case → Case
 
--- the octets of the parts of a record with these groups, whatever its values
-abbrev pub all-parts : ℕ → ℕ → ℕ → ℕ → List ℕ → List (List ℕ)
-all-parts kind groups p direction v = map (λ set. octets kind set direction v) (sets-of kind groups p)
-
+-- what a case says of splitting, reading numbers and calling. Of a row of the first table: for every well-formed record of the kind with these groups
+-- and this direction, and whatever 512 octets or more are lent, `split` answers part by part with these lengths and as many parts; it has no further
+-- part; and each time the lent octets begin with these flags
 abbrev pub Holds : Case → Type 0
 Holds (parts kind groups p direction lengths flags) =
     (listed kind ≡ groups) ×
-    ((v : List ℕ) → (map length (all-parts kind groups p direction v) ≡ lengths) × (map (take (flags-octets kind)) (all-parts kind groups p direction v) ≡ flags))
+    ((r : Record) → well-formed r ≡ true → r .kind ≡ kind → r .groups ≡ groups → r .direction ≡ direction → (out : List ℕ) → 512 ≤ length out →
+    (each 0 (length lengths) (λ i. split-of r p i (length out)) ≡ map (λ n. given (record { length = n; parts = length lengths })) lengths) ×
+    (split-of r p (length lengths) (length out) ≡ refused 15) ×
+    (each 0 (length lengths) (λ i. take (flags-octets kind) (lent-after r p i out)) ≡ flags))
 Holds (payload p n) = (r : Record) (i lent : ℕ) → known (r .kind) ≡ true → split-of r p i lent ≡ refused n
 Holds (s16 o z) = signed (number 2 o) ≡ z
 Holds (u24 o x) = number 3 o ≡ x

@@ -1,0 +1,119 @@
+-- Wrong splitters that a collector of their own, or none, would find out: each refuted by demand 2, whatever the collector.
+use Prim.Native.Nat.{ℕ, zero, suc, _<_}
+use mathlib.Core.Path.{_≡_, refl, sym, ap, _∙_}
+use mathlib.Core.Bool.{Bool, true, false, cond}
+use mathlib.Core.List.{List, [], _∷_}
+use native.Mathlib.Omega.{arith}
+use lib.Dec.{eqb}
+use lib.ListN.{length, getD, set, take}
+use mir.Facts.{sfits-lit}
+use Rattle.record.specs.declared.record.Record.{Record}
+use Rattle.record.specs.declared.split.Extent.{Extent}
+use Rattle.record.specs.Answer.{Answer, given, refused}
+use Rattle.record.specs.Layout.{layout, tables, cross-trainer, step-climber, positive-gain, negative-gain}
+use Rattle.record.specs.Groups.{has, named, size, groups-of, listed}
+use Rattle.record.specs.Octets.{number, spelled}
+use Rattle.record.specs.Notification.{part-of, read-into, values}
+use Rattle.record.specs.Record.{wire, of-wire, all-fit, others, all-zero, formed, bits-within}
+use Rattle.record.specs.Split.{longest, cut, written, extent-of, split-wire, payload-known, split-of, lent-after, part-octets}
+use Rattle.record.specs.Samples as Samples
+use Rattle.service.specs.declared.collector.Collection.{Collection}
+use Rattle.service.specs.declared.collector.Told.the-variants.{Open}
+use Rattle.service.specs.Collector.{Said, waiting, handed, refused as refusing, empty, joins, collect}
+use Rattle.demands.specs.Behaviour.{Splitter, Collector, buffer, length-of, parts-of, each, piece, pieces, says}
+use Rattle.demands.specs.Demands.{Good, count, Demand2}
+use Rattle.demands.proofs.Pieces.{splitter, collector, answered}
+use Rattle.demands.proofs.Samples.{climber, climber-1}
+
+-- ---- the number of parts
+
+-- any splitter whose number differs at some well-formed record, payload and part
+pub not-miscounting : (s : Splitter) (payload : ℕ) → payload-known payload ≡ true → (r : Record) → Good r → (i : ℕ) → i < count r payload →
+    (parts-of (s .answer r payload i buffer) ≡ count r payload → ⊥) → (c : Collector) → Demand2 s c → ⊥
+not-miscounting s payload p r w i h n c d = n (d .splits payload p r w .counts i h)
+
+-- one that writes as ours and claims a number of parts of its own
+abbrev with-parts : ℕ → Answer Extent → Answer Extent
+with-parts n (refused x) = refused x
+with-parts n (given e) = given (record { length = e .length; parts = n })
+
+abbrev pub claiming : (Record → ℕ → ℕ → ℕ) → Splitter
+claiming f = record { answer = λ r payload i out. with-parts (f r payload i) (split-of r payload i (length out)); left = lent-after }
+
+pub not-claiming : (f : Record → ℕ → ℕ → ℕ) (payload : ℕ) → payload-known payload ≡ true → (r : Record) → Good r → (i : ℕ) → i < count r payload →
+    (f r payload i ≡ count r payload → ⊥) → (c : Collector) → Demand2 (claiming f) c → ⊥
+not-claiming f payload p r w i h n =
+    not-miscounting (claiming f) payload p r w i h
+    (λ e. n (sym (ap (λ (a : Answer Extent). parts-of (with-parts (f r payload i) a)) (answered r (w .formed) payload p i 512 h (omega arith))) ∙ e))
+
+-- a step climber with all groups has two parts at payload 20
+two-parts : count (climber 1 1) 20 ≡ 2
+unfolding layout tables step-climber has named size groups-of listed longest cut
+two-parts = refl
+
+-- one that says 99 in the answer to every part but the first, and one that always says 1
+abbrev pub lying : Record → ℕ → ℕ → ℕ
+lying r payload i = cond (eqb i 0) (count r payload) 99
+
+pub not-lying : (c : Collector) → Demand2 (claiming lying) c → ⊥
+not-lying = not-claiming lying 20 refl (climber 1 1) (climber-1 .is-good) 1 (omega (arith, two-parts)) (λ e. omega (arith, two-parts, e))
+
+pub not-always-one : (c : Collector) → Demand2 (claiming (λ r payload i. 1)) c → ⊥
+not-always-one = not-claiming (λ r payload i. 1) 20 refl (climber 1 1) (climber-1 .is-good) 0 (omega (arith, two-parts)) (λ e. omega (arith, two-parts, e))
+
+-- ---- the order of the layout
+
+-- a record whose positive and negative gain are exchanged
+abbrev pub exchanged : Record → Record
+exchanged r =
+    let v : List ℕ = wire r in
+    of-wire (r .kind) (r .groups) (r .direction) (set (set v positive-gain (getD v negative-gain 0)) negative-gain (getD v positive-gain 0))
+
+-- a splitter that writes negative gain before positive
+abbrev pub exchanging : Splitter
+exchanging = record { answer = λ r payload i out. split-of (exchanged r) payload i (length out); left = λ r payload i out. lent-after (exchanged r) payload i out }
+
+-- and the collector that exchanges them back
+abbrev back-again : Said → Said
+back-again (waiting d) = waiting d
+back-again (handed r d) = handed (exchanged r) d
+back-again (refusing n d) = refusing n d
+
+abbrev pub exchanging-back : Collector
+exchanging-back = record { State = Collection; opened = empty; step = λ c s. (back-again (collect c s .said), collect c s .next) }
+
+-- a cross trainer's record comes back from the two: what is said cannot tell
+pub comes-back-exchanged :
+    says exchanging-back (empty 2 Open) (pieces exchanging 20 Samples.cross-trainer) ≡ waiting false ∷ waiting false ∷ handed Samples.cross-trainer false ∷ []
+unfolding says each split-wire extent-of layout tables cross-trainer has named size groups-of listed all-fit others all-zero formed longest cut spelled written collect part-of joins values read-into number
+comes-back-exchanged = refl
+
+trainer-good : Good Samples.cross-trainer
+unfolding layout tables cross-trainer has named size groups-of listed all-fit others all-zero formed bits-within
+trainer-good = record {
+  typed = record {
+    numbers = refl;
+    inclination = sfits-lit tt;
+    ramp-angle = sfits-lit tt;
+    belt = sfits-lit tt;
+    power-output = sfits-lit tt;
+    resistance = sfits-lit tt;
+    power = sfits-lit tt;
+    average-power = sfits-lit tt;
+  };
+  formed = refl;
+}
+
+-- but what is written can: in the one notification, where document 01 has positive gain, F2 03, this one has negative gain, F3 03
+abbrev gain-octet : List ℕ → ℕ
+gain-octet s = getD s 16 0
+
+gains-differ : (gain-octet (piece exchanging 512 Samples.cross-trainer 0) ≡ 0xF3) × (gain-octet (part-octets Samples.cross-trainer 512 0) ≡ 0xF2) × (0 < count Samples.cross-trainer 512)
+unfolding split-wire extent-of layout tables cross-trainer has named size groups-of listed all-fit others all-zero formed longest cut spelled written
+gains-differ = (refl, refl, omega arith)
+
+pub not-exchanging : (c : Collector) → Demand2 exchanging c → ⊥
+not-exchanging c d =
+    let e : piece exchanging 512 Samples.cross-trainer 0 ≡ part-octets Samples.cross-trainer 512 0 =
+    d .splits 512 refl Samples.cross-trainer trainer-good .written 0 (gains-differ .2) in
+    let z : _≡_ {A = ℕ} 0xF3 0xF2 = sym (gains-differ .0) ∙ ap gain-octet e ∙ gains-differ .1 in omega arith
