@@ -7,41 +7,18 @@ use native.Mathlib.Numerals.{add-one}
 use native.Mathlib.Omega.{arith}
 use lib.ListN.{length, replicate}
 use Rattle.record.specs.declared.record.Record.{Record}
-use Rattle.record.specs.Record.{wire, of-wire, well-formed}
 use Rattle.record.specs.Groups.{flags-octets}
 use Rattle.record.specs.Split.{payload-known, fits, run, cut, sets-of, part-octets}
-use Rattle.record.proofs.Records.{formed-facts, formed-in-types, numbers-again}
-use Rattle.service.specs.declared.collector.Told.the-variants.{Open}
+use Rattle.record.proofs.Again.{record-parts}
+use Rattle.service.specs.declared.collector.Told.{Told}
 use Rattle.service.specs.declared.collector.Collection.{Collection}
 use Rattle.service.specs.Collector.{Said, waiting, handed, Stepped, zeros, empty, collect}
-use Rattle.demands.specs.Behaviour.{each, says, same-record}
-use Rattle.demands.proofs.Dropping.{ready-open}
-use Rattle.demands.proofs.Taken.{Sent, parts}
+use Rattle.demands.specs.Behaviour.{each, says}
+use Rattle.demands.specs.Demands.{Good, Suits, count}
+use Rattle.demands.proofs.Taken.{Sent, sent, parts}
 use Rattle.demands.proofs.Held.{held-none, whole-first, sets, record-cuts}
-use Rattle.demands.proofs.Pieces.{collector, least, most, each-of}
-use Rattle.demands.proofs.DemandTwo.{Comes, comes}
-use Rattle.demands.proofs.Equal.{same-if}
-
--- the record made of a record's own numbers
-abbrev pub again : Record → Record
-again r = of-wire (r .kind) (r .groups) (r .direction) (wire r)
-
-abbrev own : (r : Record) → well-formed r ≡ true → Sent
-own r w = record {
-  kind = r .kind;
-  groups = r .groups;
-  direction = r .direction;
-  numbers = wire r;
-  formed = formed-facts (r .kind) (r .groups) (r .direction) (wire r) w refl;
-  whole = again r;
-  again = refl;
-}
-
--- it is the same
-pub again-same : (r : Record) → well-formed r ≡ true → same-record r (again r) ≡ true
-again-same r w =
-    same-if r (again r) refl refl refl
-    (sym (numbers-again (r .kind) (r .groups) (r .direction) (wire r) refl (formed-in-types (r .kind) (r .groups) (r .direction) (wire r) w refl)))
+use Rattle.demands.proofs.Pieces.{collector, low, high, each-of}
+use Rattle.demands.proofs.DemandTwo.{Comes, comes, ready-if}
 
 -- ---- lists of what is said
 
@@ -56,55 +33,55 @@ tail-same : (a b : Said) (l k : List Said) → a ∷ l ≡ b ∷ k → l ≡ k
 tail-same a b l k e = cc
 
 module _ (r : Record) (payload : ℕ) where
-  abbrev pub count : ℕ
-  count = length (sets-of (r .kind) (r .groups) payload)
-
   -- what is said to part i and to those behind it: waiting some times, then the record
   pub record Left (i : ℕ) (c : Collection) : Type 0 where
-    pub below : i < count
+    pub below : i < count r payload
     pub times : ℕ
-    pub said : says collector c (each i (count - i) (part-octets r payload)) ≡ replicate times (waiting false) ++ (handed (again r) false ∷ [])
+    pub said : says collector c (each i (count r payload - i) (part-octets r payload)) ≡ replicate times (waiting false) ++ (handed r false ∷ [])
 
   -- at first
-  pub left-all : well-formed r ≡ true → payload-known payload ≡ true → 0 < count → Left 0 (empty (r .kind) Open)
-  left-all w p some =
-      let s : Sent = own r w in
-      let y : Comes s (says collector (empty (r .kind) Open) (parts s (sets payload s))) =
-      comes s payload (least r w payload p) (most r w payload p) (record-cuts s payload (least r w payload p)) Open ready-open 0 zeros (held-none s) (whole-first s) in
-      let e : each 0 count (part-octets r payload) ≡ parts s (sets payload s) =
+  pub left-all : Good r → payload-known payload ≡ true → (told : Told) → Suits (r .groups) told → Left 0 (empty (r .kind) told)
+  left-all w p told suits =
+      let s : Sent = sent r w in
+      let some : 0 < count r payload = record-parts r (w .formed) payload p .some in
+      let y : Comes s (says collector (empty (r .kind) told) (parts s (sets payload s))) =
+      comes s payload (low r w payload p) (high r w payload p) (record-cuts s payload (low r w payload p)) told (ready-if (r .groups) told suits) 0 zeros
+      (held-none s) (whole-first s) in
+      let e : each 0 (count r payload) (part-octets r payload) ≡ parts s (sets payload s) =
       each-of s (sets payload s) 0 (part-octets r payload) (λ i h. let z : 0 + i ≡ i = omega arith in ap (part-octets r payload) z) in
-      let n : count - 0 ≡ count = omega arith in record {
+      let n : count r payload - 0 ≡ count r payload = omega arith in record {
         below = some;
         times = y .0;
-        said = ap (λ (k : ℕ). says collector (empty (r .kind) Open) (each 0 k (part-octets r payload))) n ∙ ap (says collector (empty (r .kind) Open)) e ∙ y .1;
+        said =
+            ap (λ (k : ℕ). says collector (empty (r .kind) told) (each 0 k (part-octets r payload))) n ∙ ap (says collector (empty (r .kind) told)) e ∙ y .1;
       }
 
   -- what one part more gives
   pub data Next (i : ℕ) (x : Stepped) : Type 0 where
-    comes-home : x .said ≡ handed (again r) false → Next i x
+    comes-home : x .said ≡ handed r false → Next i x
     waits-on : x .said ≡ waiting false → Left (i + 1) (x .next) → Next i x
 
-  first-said : (i : ℕ) (c : Collection) → i < count →
-      says collector c (each i (count - i) (part-octets r payload)) ≡
-      collect c (part-octets r payload i) .said ∷ says collector (collect c (part-octets r payload i) .next) (each (suc i) (count - suc i) (part-octets r payload))
+  first-said : (i : ℕ) (c : Collection) → i < count r payload →
+      says collector c (each i (count r payload - i) (part-octets r payload)) ≡
+      collect c (part-octets r payload i) .said ∷ says collector (collect c (part-octets r payload i) .next) (each (suc i) (count r payload - suc i) (part-octets r payload))
   unfolding says each
-  first-said i c h = let n : count - i ≡ suc (count - suc i) = omega arith in rw n
+  first-said i c h = let n : count r payload - i ≡ suc (count r payload - suc i) = omega arith in rw n
 
   -- something is said, so there is a part
-  some-left : (i m n : ℕ) (c : Collection) → count - i ≡ n →
-      says collector c (each i n (part-octets r payload)) ≡ replicate m (waiting false) ++ (handed (again r) false ∷ []) → i < count
+  some-left : (i m n : ℕ) (c : Collection) → count r payload - i ≡ n →
+      says collector c (each i n (part-octets r payload)) ≡ replicate m (waiting false) ++ (handed r false ∷ []) → i < count r payload
   unfolding says each
-  some-left i m zero c z e = absurd (nothing m (waiting false) (handed (again r) false) e)
+  some-left i m zero c z e = absurd (nothing m (waiting false) (handed r false) e)
   some-left i m (suc n) c z e = omega arith
 
   after : (i : ℕ) (x : Stepped) (m : ℕ) →
-      x .said ∷ says collector (x .next) (each (suc i) (count - suc i) (part-octets r payload)) ≡ replicate m (waiting false) ++ (handed (again r) false ∷ []) → Next i x
-  after i x zero e = comes-home (head-same (x .said) (handed (again r) false) (says collector (x .next) (each (suc i) (count - suc i) (part-octets r payload))) [] e)
+      x .said ∷ says collector (x .next) (each (suc i) (count r payload - suc i) (part-octets r payload)) ≡ replicate m (waiting false) ++ (handed r false ∷ []) → Next i x
+  after i x zero e = comes-home (head-same (x .said) (handed r false) (says collector (x .next) (each (suc i) (count r payload - suc i) (part-octets r payload))) [] e)
   after i x (suc m) e =
-      let rest : List Said = says collector (x .next) (each (suc i) (count - suc i) (part-octets r payload)) in
-      let t : rest ≡ replicate m (waiting false) ++ (handed (again r) false ∷ []) = tail-same (x .said) (waiting false) rest (replicate m (waiting false) ++ (handed (again r) false ∷ [])) e in
-      waits-on (head-same (x .said) (waiting false) rest (replicate m (waiting false) ++ (handed (again r) false ∷ [])) e)
-      (rw (add-one i) (record { below = some-left (suc i) m (count - suc i) (x .next) refl t; times = m; said = t }))
+      let rest : List Said = says collector (x .next) (each (suc i) (count r payload - suc i) (part-octets r payload)) in
+      let t : rest ≡ replicate m (waiting false) ++ (handed r false ∷ []) = tail-same (x .said) (waiting false) rest (replicate m (waiting false) ++ (handed r false ∷ [])) e in
+      waits-on (head-same (x .said) (waiting false) rest (replicate m (waiting false) ++ (handed r false ∷ [])) e)
+      (rw (add-one i) (record { below = some-left (suc i) m (count r payload - suc i) (x .next) refl t; times = m; said = t }))
 
   pub next : (i : ℕ) (c : Collection) → Left i c → Next i (collect c (part-octets r payload i))
   next i c l = after i (collect c (part-octets r payload i)) (l .times) (sym (first-said i c (l .below)) ∙ l .said)

@@ -1,7 +1,7 @@
 -- Demand 2: a record, split and collected, comes back.
 use Prim.Native.Nat.{ℕ, suc, _+_, _*_, _-_, _%_, _^_, _≤_}
 use mathlib.Core.Path.{_≡_, refl, sym, ap, _∙_, subst, subst₂}
-use mathlib.Core.Logic.{_⊎_, inl, inr}
+use mathlib.Core.Logic.{inl, inr}
 use mathlib.Core.Bool.{true, false}
 use mathlib.Core.List.{List, [], _∷_, _++_}
 use native.Mathlib.Omega.{arith}
@@ -18,7 +18,7 @@ use Rattle.service.specs.declared.collector.Told.the-variants.{Open, Fixed}
 use Rattle.service.specs.declared.collector.Collection.{Collection}
 use Rattle.service.specs.Collector.{Said, waiting, handed, Stepped, zeros, collect, empty}
 use Rattle.demands.specs.Behaviour.{Splitter, buffer, parts-of, says, SplitsAsPromised, CollectsAsPromised, collector-of}
-use Rattle.demands.specs.Demands.{Good, Short, Splits, Demand2}
+use Rattle.demands.specs.Demands.{Good, Short, Suits, Splits, Demand2}
 use Rattle.demands.proofs.Dropping.{Ready, ready-open, ready-fixed}
 use Rattle.demands.proofs.Taken.{Sent, sent, part, parts, with-numbers, holding}
 use Rattle.demands.proofs.Held.{Held, held-none, held-next, whole-first, whole-next, goes-on, hands, record-cuts}
@@ -59,7 +59,7 @@ module _ (r : Sent) (payload : ℕ) (least : 20 ≤ payload) (most : payload ≤
   parts-short (whole {b} {q} f) = (short-part (1 + q * 2 ^ b) f, tt)
   parts-short (more {b} {q} d p f k) = (short-part (q % 2 ^ d * 2 ^ b) f, parts-short k)
 
-ready-if : (groups : ℕ) (t : Told) → (t ≡ Open) ⊎ (t ≡ Fixed groups) → Ready groups t
+pub ready-if : (groups : ℕ) (t : Told) → Suits groups t → Ready groups t
 ready-if groups t (inl e) = rw e ready-open
 ready-if groups t (inr e) = rw e ready-fixed
 

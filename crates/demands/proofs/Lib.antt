@@ -12,8 +12,8 @@ pub mod Refuted
 pub mod Splitters
 pub mod Mixed
 pub mod Contracts
-pub mod Equal
 pub mod ComingBack
+pub mod FirstPart
 pub mod DemandsOnce
 pub mod ControlLaws
 pub mod AllCases

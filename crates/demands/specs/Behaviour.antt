@@ -1,9 +1,7 @@
 -- What any splitter and any collector do, as a host sees it.
 use Prim.Native.Nat.{ℕ, zero, suc}
 use mathlib.Core.Path.{_≡_}
-use mathlib.Core.Bool.{Bool, true, false, _&&_}
-use lib.Dec.{eqb}
-use Rattle.record.specs.Record.{wire}
+use mathlib.Core.Bool.{Bool, true, false}
 use mathlib.Core.List.{List, [], _∷_}
 use lib.ListN.{length, take, replicate}
 use Rattle.record.specs.declared.record.Record.{Record}
@@ -86,15 +84,3 @@ pub record CollectsAsPromised (opened : ℕ → Told → Collection) (said : Col
   pub opens-so : (kind : ℕ) (told : Told) → opened kind told ≡ empty kind told
   pub says-so : (c : Collection) (s : List ℕ) → said c s ≡ collect c s .said
   pub goes-on : (c : Collection) (s : List ℕ) → next c s ≡ collect c s .next
-
--- ---- whether two records are equal, as a test
-
-unfoldable pub equal : List ℕ → List ℕ → Bool
-equal [] [] = true
-equal [] (y ∷ ys) = false
-equal (x ∷ xs) [] = false
-equal (x ∷ xs) (y ∷ ys) = eqb x y && equal xs ys
-
--- in kind, groups, direction and every value
-unfoldable pub same-record : Record → Record → Bool
-same-record a b = eqb (a .kind) (b .kind) && eqb (a .groups) (b .groups) && eqb (a .direction) (b .direction) && equal (wire a) (wire b)

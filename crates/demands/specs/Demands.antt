@@ -42,6 +42,10 @@ pub data Empty (c : Collector) (kind : ℕ) (told : Told) : c .State → Type 0 
   after-refusal : {state : c .State} → Reached c kind told state → (s : List ℕ) (n : ℕ) (d : Bool) → 30 ≤ n → n ≤ 34 →
       c .step state s .0 ≡ refused n d → Empty c kind told (c .step state s .1)
 
+-- "of its kind (and set, where told)": told nothing, or the record's set
+abbrev pub Suits : ℕ → Told → Type 0
+Suits groups told = (told ≡ Open) ⊎ (told ≡ Fixed groups)
+
 -- ---- demand 2
 
 -- "The answer for part i, counted from 0, is its octets, its length and the number of parts": every answer to a part says how many there are, and a
@@ -56,7 +60,7 @@ pub record Splits (s : Splitter) (payload : ℕ) (r : Record) : Type 0 where
 -- "waiting", the last with the record, and nothing was dropped.
 pub record Demand2 (s : Splitter) (c : Collector) : Type 0 where
   pub splits : (payload : ℕ) → payload-known payload ≡ true → (r : Record) → Good r → Splits s payload r
-  pub comes-back : (payload : ℕ) → payload-known payload ≡ true → (r : Record) → Good r → (told : Told) → (told ≡ Open) ⊎ (told ≡ Fixed (r .groups)) →
+  pub comes-back : (payload : ℕ) → payload-known payload ≡ true → (r : Record) → Good r → (told : Told) → Suits (r .groups) told →
       (state : c .State) → Empty c (r .kind) told state →
       (n : ℕ) × (says c state (pieces s payload r) ≡ replicate n (waiting false) ++ (handed r false ∷ []))
 

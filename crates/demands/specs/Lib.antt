@@ -1,4 +1,5 @@
 pub mod Behaviour
 pub mod Demands
+pub mod Back
 pub mod Control
 pub mod Cases

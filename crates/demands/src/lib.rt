@@ -1,10 +1,8 @@
 // Demand 2 as running code: a record, split and collected, comes back equal.
-use record::formed::well_formed;
-use record::numbers::numbers_of;
 use record::record::Record;
+use record::refusal::Refusal;
 use record::split::MOST_PARTS;
 use record::split::SplitAnswer;
-use record::split::is_payload;
 use record::split::split;
 use service::collector::Collected;
 use service::collector::Collection;
@@ -13,45 +11,20 @@ use service::collector::Told;
 use service::collector::collect;
 use service::collector::open;
 ghost use mathlib.Core.Path.{_≡_};
-ghost use mathlib.Core.Bool.{true, _&&_};
+ghost use mathlib.Core.Bool.{true};
 ghost use Prim.Native.Nat.{_<_};
 ghost use lib.ListN.{length};
+ghost use Rattle.record.specs.Answer.{given};
 ghost use Rattle.record.specs.Record.{well-formed};
 ghost use Rattle.record.specs.Split.{payload-known, sets-of, part-octets};
 ghost use Rattle.service.specs.Collector.{meant, collect as Collector·collect};
-ghost use Rattle.demands.specs.Behaviour.{equal, same-record};
+ghost use Rattle.demands.specs.Back.{meant-back, back-of};
+ghost use Rattle.demands.specs.Demands.{Suits};
 
-// Whether two rows of wire numbers are the same.
-fn same_numbers(a: &[u32], b: &[u32]) -> bool
-    ensures { λ r. ⌜ r ≡ equal (now (a .entry)) (now (b .entry)) ⌝ }
-{
-    if a.len() != b.len() {
-        return false;
-    }
-    for i in 0..a.len() {
-        if a[i] != b[i] {
-            return false;
-        }
-    }
-    true
-}
-
-// Whether two records are equal in kind, groups, direction and every value.
-fn same(a: Record, b: Record) -> bool
-    ensures { λ r. ⌜ r ≡ same-record a b ⌝ }
-{
-    if a.kind != b.kind {
-        return false;
-    }
-    if a.groups != b.groups {
-        return false;
-    }
-    if a.direction != b.direction {
-        return false;
-    }
-    let one = numbers_of(a);
-    let other = numbers_of(b);
-    same_numbers(&one[..], &other[..])
+// What comes back of a record that is split and collected: the record that was collected, or why there is none.
+pub enum Back {
+    Record(Record),
+    Refused(Refusal),
 }
 
 // One part of a record, split off and handed to a collection.
@@ -70,17 +43,12 @@ fn deliver(record: Record, payload: usize, part: usize, collection: Collection) 
     }
 }
 
-// Splits a record at a payload and collects its parts: whether it came back equal.
-pub fn comes_back(record: Record, payload: usize) -> bool
-    ensures { λ r. ⌜ r ≡ (well-formed «record» && payload-known payload) ⌝ }
+// Splits a record and collects its parts until one answers with a record, which is the same.
+fn collected(record: Record, payload: usize, told: Told) -> Back
+    requires { ⌜ (well-formed «record» ≡ true) × (payload-known payload ≡ true) × Suits («record» .groups) told ⌝ }
+    ensures { λ r. ⌜ meant-back r ≡ given «record» ⌝ }
 {
-    if !well_formed(record) {
-        return false;
-    }
-    if !is_payload(payload) {
-        return false;
-    }
-    let mut collection = open(record.kind, Told::Open).collection;
+    let mut collection = open(record.kind, told).collection;
     let mut part = 0;
     while part < MOST_PARTS {
         let step = deliver(record, payload, part, collection);
@@ -90,18 +58,44 @@ pub fn comes_back(record: Record, payload: usize) -> bool
                 record: back,
                 dropped: _,
             } => {
-                return same(record, back);
+                return Back::Record(back);
             }
             Collected::Refused {
-                refusal: _,
+                refusal,
                 dropped: _,
             } => {
-                return false;
+                return Back::Refused(refusal);
             }
             Collected::Waiting { dropped: _ } => {}
         }
         collection = step.next;
         part += 1;
     }
-    false
+    Back::Refused(Refusal::Incomplete)
+}
+
+// The same of any record and payload: 11, 12 and 13 as the splitter judges them.
+fn judged(record: Record, payload: usize, told: Told) -> Back
+    requires { ⌜ Suits («record» .groups) told ⌝ }
+    ensures { λ r. ⌜ meant-back r ≡ back-of «record» payload ⌝ }
+{
+    let mut out = [0u8; 512];
+    match split(record, payload, 0, &mut out) {
+        SplitAnswer::Part(_) => collected(record, payload, told),
+        SplitAnswer::Refused(refusal) => Back::Refused(refusal),
+    }
+}
+
+// What comes back of a record that is split at a payload and collected openly: the record, or 11, 12, 13.
+pub fn comes_back(record: Record, payload: usize) -> Back
+    ensures { λ r. ⌜ meant-back r ≡ back-of «record» payload ⌝ }
+{
+    judged(record, payload, Told::Open)
+}
+
+// The same where the collection was told the record's set.
+pub fn comes_back_told(record: Record, payload: usize) -> Back
+    ensures { λ r. ⌜ meant-back r ≡ back-of «record» payload ⌝ }
+{
+    judged(record, payload, Told::Fixed(record.groups))
 }
