@@ -5,16 +5,17 @@ use mathlib.Core.Bool.{Bool, true, false, cond}
 use mathlib.Core.List.{List, [], _∷_}
 use native.Mathlib.Omega.{arith}
 use lib.Dec.{eqb}
-use lib.ListN.{length, getD, set, take}
+use lib.ListN.{length, getD, take}
 use mir.Facts.{sfits-lit}
 use Rattle.record.specs.declared.record.Record.{Record}
 use Rattle.record.specs.declared.split.Extent.{Extent}
 use Rattle.record.specs.Answer.{Answer, given, refused}
-use Rattle.record.specs.Layout.{layout, tables, cross-trainer, step-climber, positive-gain, negative-gain}
+use Rattle.record.specs.Layout.{layout, tables, cross-trainer, step-climber}
+use Rattle.record.specs.Order.{exchanged}
 use Rattle.record.specs.Groups.{has, named, size, groups-of, listed}
 use Rattle.record.specs.Octets.{number, spelled}
 use Rattle.record.specs.Notification.{part-of, read-into, values}
-use Rattle.record.specs.Record.{wire, of-wire, all-fit, others, all-zero, formed, bits-within}
+use Rattle.record.specs.Record.{all-fit, others, all-zero, formed, bits-within}
 use Rattle.record.specs.Split.{longest, cut, written, extent-of, split-wire, payload-known, split-of, lent-after, part-octets}
 use Rattle.record.specs.Samples as Samples
 use Rattle.service.specs.declared.collector.Collection.{Collection}
@@ -62,12 +63,6 @@ pub not-always-one : (c : Collector) → Demand2 (claiming (λ r payload i. 1)) 
 not-always-one = not-claiming (λ r payload i. 1) 20 refl (climber 1 1) (climber-1 .is-good) 0 (omega (arith, two-parts)) (λ e. omega (arith, two-parts, e))
 
 -- ---- the order of the layout
-
--- a record whose positive and negative gain are exchanged
-abbrev pub exchanged : Record → Record
-exchanged r =
-    let v : List ℕ = wire r in
-    of-wire (r .kind) (r .groups) (r .direction) (set (set v positive-gain (getD v negative-gain 0)) negative-gain (getD v positive-gain 0))
 
 -- a splitter that writes negative gain before positive
 abbrev pub exchanging : Splitter

@@ -1,5 +1,6 @@
 pub mod Rows
 pub mod Room
+pub mod Beside
 pub mod Partly
 pub mod Steps
 pub mod Walked

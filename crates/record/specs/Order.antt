@@ -4,9 +4,12 @@ use mathlib.Core.Path.{_≡_, refl}
 use mathlib.Core.Bool.{Bool, true, false, cond, not, _&&_, _||_}
 use mathlib.Core.List.{List, [], _∷_}
 use lib.Dec.{eqb}
+use lib.ListN.{getD, set}
 use Rattle.record.specs.declared.layout.Row.{Row}
 use Rattle.record.specs.declared.layout.Width.the-variants.{U8, U16}
+use Rattle.record.specs.declared.record.Record.{Record}
 use Rattle.record.specs.Layout.{at, fields, inclination, ramp-angle, positive-gain, negative-gain, total-energy, energy-per-hour, energy-per-minute, tables, treadmill, cross-trainer, step-climber, stair-climber, rower, indoor-bike}
+use Rattle.record.specs.Record.{wire, of-wire}
 
 -- a row and the one just behind it: the first has field a exactly when the second has field b, and then they are of one group
 abbrev pub beside : ℕ → ℕ → Row → Row → Bool
@@ -57,3 +60,9 @@ gain-kinds = (refl, refl, refl, refl, refl, refl)
 pub exchanged-refused :
     (ordered (at 5 negative-gain U16 ∷ at 5 positive-gain U16 ∷ []) ≡ false) × (ordered (at 5 positive-gain U16 ∷ at 6 negative-gain U16 ∷ []) ≡ false)
 exchanged-refused = (refl, refl)
+
+-- a record whose positive and negative gain are exchanged: what the samples, demand 2 and the listing's law refuse
+abbrev pub exchanged : Record → Record
+exchanged r =
+    let v : List ℕ = wire r in
+    of-wire (r .kind) (r .groups) (r .direction) (set (set v positive-gain (getD v negative-gain 0)) negative-gain (getD v positive-gain 0))
