@@ -37,7 +37,7 @@ both-parts q d b =
 
 module _ (kind room : ℕ) (s : Sound kind) (least : 17 ≤ room) where
   -- groups that do not fit beside the main one: the lowest of them is in the first part
-  first-in : (set : ℕ) → set < 2 ^ 15 → room < set-length kind (1 + set) →
+  pub first-in : (set : ℕ) → set < 2 ^ 15 → room < set-length kind (1 + set) →
       (l : ℕ) × (suc l ≤ longest kind set room 15) × (set % 2 ^ suc l ≡ 2 ^ l)
   first-in set h f = elim (tested (eqb set 0)) [
     | passed e ↦
@@ -51,7 +51,7 @@ module _ (kind room : ℕ) (s : Sound kind) (least : 17 ≤ room) where
   ]
 
   -- so the first part ends above where the set begins, and is not empty
-  first-above : (b q L l : ℕ) → suc l ≤ L → q * 2 ^ b % 2 ^ suc l ≡ 2 ^ l → b < L
+  pub first-above : (b q L l : ℕ) → suc l ≤ L → q * 2 ^ b % 2 ^ suc l ≡ 2 ^ l → b < L
   first-above b q L l h e = elim (tested (leb (suc l) b)) [
     | passed t ↦
         let z : q * 2 ^ b % 2 ^ suc l ≡ 0 = mod-multiple q b (suc l) (leb-le (suc l) b t) in

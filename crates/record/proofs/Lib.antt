@@ -16,6 +16,7 @@ pub mod Cuts
 pub mod Kept
 pub mod Parts
 pub mod Partition
+pub mod Divided
 pub mod Again
 pub mod Once
 pub mod TablesOnce

@@ -1,5 +1,6 @@
 -- "Feature value, 8 octets, two u32": features, then target settings.
 use Prim.Native.Nat.{ℕ, _%_, _^_}
+use mathlib.Core.Path.{_≡_, refl}
 use mathlib.Core.Bool.{Bool, cond, _&&_}
 use mathlib.Core.List.{List, [], _∷_, _++_, map}
 use lib.Dec.{eqb, leb}
@@ -104,3 +105,7 @@ feature-octets f = spelled 4 (named-bits (f .features)) ++ spelled 4 (named-bits
 abbrev pub meant : FeatureAnswer → Answer Feature
 meant (answers.Feature f) = given f
 meant (answers.Refused x) = refused (number-of x)
+
+-- both sentences name their bits in ascending order, none left out: 0 to 16
+pub in-order : (feature-bits ≡ 0 ∷ 1 ∷ 2 ∷ 3 ∷ 4 ∷ 5 ∷ 6 ∷ 7 ∷ 8 ∷ 9 ∷ 10 ∷ 11 ∷ 12 ∷ 13 ∷ 14 ∷ 15 ∷ 16 ∷ []) × (target-bits ≡ feature-bits)
+in-order = (refl, refl)

@@ -1,8 +1,8 @@
 -- What the sets of a record's parts are, said of any list of sets.
-use Prim.Native.Nat.{ℕ, suc, _+_, _<_, _≤_}
+use Prim.Native.Nat.{ℕ, suc, _+_, _-_, _%_, _^_, _<_, _≤_}
 use mathlib.Core.Path.{_≡_}
 use mathlib.Core.Bool.{true}
-use mathlib.Core.List.{List}
+use mathlib.Core.List.{List, [], _∷_}
 use lib.Dec.{eqb}
 use lib.ListN.{length, getD}
 use Rattle.record.specs.Groups.{has, flags-octets, set-length, optional}
@@ -21,3 +21,12 @@ pub record PartsOf (kind groups payload : ℕ) (sets : List ℕ) : Type 0 where
   pub together : (x : ℕ) → has (1 + groups) x ≡ true → (i : ℕ) × (i < length sets) × (has (getD sets i 0) x ≡ true)
   -- and each fits the payload
   pub fit : (i : ℕ) → i < length sets → flags-octets kind + set-length kind (getD sets i 0) ≤ payload
+
+-- The same as document 01 words it, where `left` are the remaining groups and a run of the lowest of them is those below some bit: "While flags, main
+-- group and all remaining optional groups don't fit in one payload, a part with More Data 1 is sent holding the longest run of the lowest remaining
+-- groups that fits. Then one part with More Data 0 holds the main group and what remains." The room is the payload without the flags.
+pub data Divided (kind room : ℕ) : ℕ → List ℕ → Type 0 where
+  final : {left : ℕ} → set-length kind (1 + left) ≤ room → Divided kind room left ((1 + left) ∷ [])
+  one-more : {left : ℕ} {rest : List ℕ} (n : ℕ) → room < set-length kind (1 + left) → set-length kind (left % 2 ^ n) ≤ room →
+      ((m : ℕ) → set-length kind (left % 2 ^ m) ≤ room → left % 2 ^ m ≤ left % 2 ^ n) →
+      Divided kind room (left - left % 2 ^ n) rest → Divided kind room left (left % 2 ^ n ∷ rest)
