@@ -1,9 +1,12 @@
 // A console under test, and a client, number 0, that writes to it and confirms each response.
 use output::first;
 use output::print;
+use output::print_number;
 use output::print_octets;
+use record::feature::Feature;
 use record::octets::u8_at;
 use service::control::Console;
+use service::control::Outcome;
 use service::control::counted::Counted;
 use service::control::ranges::HeartRateRange;
 use service::control::ranges::Ranges;
@@ -16,7 +19,7 @@ const FEATURE: [u8; 8] = [0xFF, 0xFF, 0x01, 0x00, 0xFF, 0xFF, 0x01, 0x00];
 // A test case that is being run: the console, and whether each answer so far was the one expected.
 pub(crate) struct Bench {
     console: Console,
-    passes: bool,
+    expected: bool,
 }
 
 // Speed 1 to 60 km/h, inclination -10 to 15 %, resistance 1 to 10, power 10 to 500 W, heart rate 60 to 200.
@@ -71,12 +74,23 @@ pub(crate) fn paused() -> Console {
     after(running(), b"\x08\x02")
 }
 
-pub(crate) fn begin(case: &[u8], console: Console) -> Bench {
+// A test case's identifier, by its group and its number, and the words behind it.
+pub(crate) fn print_case(group: &[u8], number: u8, words: &[u8]) {
     print(b"FTMS/SR/");
-    print(case);
+    print(group);
+    if number < 10 {
+        print(b"0");
+    }
+    print_number(b"", number as u64);
+    print(b"-C");
+    print(words);
+}
+
+pub(crate) fn begin(group: &[u8], number: u8, words: &[u8], console: Console) -> Bench {
+    print_case(group, number, words);
     Bench {
         console,
-        passes: true,
+        expected: true,
     }
 }
 
@@ -85,9 +99,12 @@ fn print_counted(counted: Counted) {
     print_octets(first(&octets, counted.count as usize));
 }
 
-fn print_exchange(sent: &[u8], response: Counted, status: Counted) {
+fn print_sent(sent: &[u8]) {
     print(b" sent");
     print_octets(sent);
+}
+
+fn print_answer(response: Counted, status: Counted) {
     print(b" response");
     print_counted(response);
     print(b" status");
@@ -104,51 +121,99 @@ fn is_response(response: Counted, sent: &[u8], result: u8) -> bool {
     is_counted(response, &expected)
 }
 
-// Writes, prints what came back, compares it with what is expected, and confirms.
-pub(crate) fn exchange(b: Bench, sent: &[u8], result: u8, status: &[u8]) -> Bench {
+// Writes, prints what came back, and compares it with what is expected.
+pub(crate) fn answer(b: Bench, sent: &[u8], result: u8, status: &[u8]) -> Bench {
     let console = b.console;
     let reply = console.write(0, sent);
     let response = reply.response;
     let said = reply.status;
-    print_exchange(sent, response, said);
+    print_sent(sent);
+    print_answer(response, said);
     let responds = is_response(response, sent, result);
     let tells = is_counted(said, status);
-    let written = reply.console;
-    let confirmed = written.confirm(0).console;
     Bench {
-        console: confirmed,
-        passes: b.passes && responds && tells,
+        console: reply.console,
+        expected: b.expected && responds && tells,
     }
 }
 
-// The verdict, and behind it where document 01 departs from the test suite, if it does.
-pub(crate) fn finish(b: Bench, departure: &[u8]) {
-    if b.passes {
-        print(b": pass");
-    } else {
-        print(b": FAIL");
+// Writes, compares, and confirms.
+pub(crate) fn exchange(b: Bench, sent: &[u8], result: u8, status: &[u8]) -> Bench {
+    let answered = answer(b, sent, result, status);
+    let console = answered.console;
+    let confirmed = console.confirm(0).console;
+    Bench {
+        console: confirmed,
+        expected: answered.expected,
     }
-    print(departure);
+}
+
+// The number of a refusal, 0 for none.
+fn refusal_of(outcome: Outcome) -> u8 {
+    match outcome {
+        Outcome::Done => 0,
+        Outcome::Refused(refusal) => refusal.number(),
+    }
+}
+
+// Writes what is refused with this number.
+pub(crate) fn refused(b: Bench, sent: &[u8], number: u8) -> Bench {
+    let console = b.console;
+    let reply = console.write(0, sent);
+    let found = refusal_of(reply.outcome);
+    print_sent(sent);
+    print_number(b" refused ", found as u64);
+    Bench {
+        console: reply.console,
+        expected: b.expected && found == number,
+    }
+}
+
+// The verdict, where all was as expected.
+pub(crate) fn conclude(expected: bool, verdict: &[u8]) {
+    print(b": ");
+    if expected {
+        print(verdict);
+    } else {
+        print(b"FAIL");
+    }
     print(b"\n");
+}
+
+pub(crate) fn finish(b: Bench, verdict: &[u8]) {
+    conclude(b.expected, verdict);
+}
+
+// The Feature value of a machine that was opened with these octets.
+fn feature_of(octets: &[u8]) -> Feature {
+    let opened = Console::open(octets, ranges()).console;
+    let machine = opened.machine;
+    let setup = machine.setup;
+    setup.feature
+}
+
+// Whether the machine under test says that it supports a feature.
+pub(crate) fn supports(feature: u8) -> bool {
+    feature_of(&FEATURE).has_feature(feature)
 }
 
 // "The characteristic value is 8 octets with RFU bits set to 0", though the machine was opened with every bit set.
 pub(crate) fn run_feature() {
-    let opened = Console::open(b"\xFF\xFF\xFF\xFF\xFF\xFF\xFF\xFF", ranges()).console;
-    let machine = opened.machine;
-    let setup = machine.setup;
-    let feature = setup.feature;
+    let feature = feature_of(b"\xFF\xFF\xFF\xFF\xFF\xFF\xFF\xFF");
     let octets = feature.to_octets();
-    print(b"FTMS/SR/CR/BV-01-C read");
+    print_case(b"CR/BV-", 1, b" read");
     print_octets(&octets);
-    if check::same(&octets, &FEATURE) {
-        print(b": pass\n");
-    } else {
-        print(b": FAIL\n");
-    }
+    conclude(check::same(&octets, &FEATURE), b"pass");
 }
 
-pub(crate) fn run(case: &[u8], console: Console, sent: &[u8], status: &[u8]) {
-    let b = begin(case, console);
-    finish(exchange(b, sent, 0x01, status), b"");
+// A write that succeeds.
+pub(crate) fn run(group: &[u8], number: u8, console: Console, sent: &[u8], status: &[u8]) {
+    let b = begin(group, number, b"", console);
+    finish(exchange(b, sent, 0x01, status), b"pass");
+}
+
+// A write that the console answers with another result than the test suite expects.
+pub(crate) fn depart(group: &[u8], number: u8, sent: &[u8], result: u8, why: &[u8]) {
+    let b = begin(group, number, b"", holding());
+    finish(exchange(b, sent, result, b""), why);
 }

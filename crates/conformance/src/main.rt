@@ -1,12 +1,20 @@
-// The server test cases of source document 003 that document 01 covers: its sections 4.4, 4.8, 4.9 and 4.10. Each line has the case's identifier,
-// what was sent, what came back and the verdict, and says where document 01 departs from the test suite.
+// The server test cases of source document 003, in its order. Each line has a case's identifier, what was read, notified or sent, and the verdict:
+// `pass` where the outcome is the one that the test suite expects, `departs` where document 01 has another or asks for a step more, `outside` where
+// what is tested lies outside document 01, each with its reason; `FAIL` where the outcome is none that was expected.
 mod bench;
 mod errors;
+mod notifications;
+mod outside;
 mod procedures;
+mod records;
 mod statuses;
 
 fn main() {
+    outside::print_generic();
     bench::run_feature();
+    outside::print_reads();
+    notifications::run_all();
+    outside::print_training();
     statuses::run_all();
     procedures::run_all();
     errors::run_all();
