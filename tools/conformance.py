@@ -46,6 +46,8 @@ SAMPLE = dict(
     metabolic_equivalent=83, elapsed=1800, remaining=600, belt_force=9, power_output=180, step_rate=64, average_step_rate=58, stride_count=1020,
     resistance=50, power=205, average_power=198, average_stroke_rate=46, cadence=170, average_cadence=164)
 
+assert len(set(SAMPLE.values())) == len(SAMPLE)
+
 # The cases of a complete record, and those of elapsed time with the last step of each.
 COMPLETE = {1: 1, 2: 13, 3: 27, 4: 35, 5: 44, 6: 55}
 ELAPSED = {1: (12, 12), 2: (25, 12), 3: (33, 12), 4: (42, 12), 5: (54, 12), 6: (65, 13)}

@@ -1,5 +1,4 @@
 // Section 4.10: writes that must be answered with an error.
-use crate::bench::Bench;
 use crate::bench::answer;
 use crate::bench::begin;
 use crate::bench::exchange;
@@ -11,15 +10,15 @@ use crate::bench::refused;
 // Starting a machine that runs.
 fn run_second_start() {
     let b = begin(b"SPE/BV-", 1, b"", holding());
-    let b = exchange(b, b"\x07", 0x01, b"\x04");
-    let b = exchange(b, b"\x07", 0x04, b"");
+    let b = exchange(b, b"\x07", 0x01, 0x04);
+    let b = exchange(b, b"\x07", 0x04, 0);
     finish(b, b"pass");
 }
 
 // Stopping a machine that is stopped. The steps of the test suite do not confirm the first response: "20: a response awaits confirmation (ATT FE)".
 fn run_unconfirmed() {
     let b = begin(b"SPE/BV-", 2, b" steps 3 to 6", holding());
-    let b = answer(b, b"\x07", 0x01, b"\x04");
+    let b = answer(b, b"\x07", 0x01, 0x04);
     let b = refused(b, b"\x08\x01", 20);
     finish(b, b"departs (a response awaits confirmation)");
 }
@@ -27,9 +26,9 @@ fn run_unconfirmed() {
 // The same with a confirmation after step 4.
 fn run_second_stop() {
     let b = begin(b"SPE/BV-", 2, b" with step 4 confirmed", holding());
-    let b = exchange(b, b"\x07", 0x01, b"\x04");
-    let b = exchange(b, b"\x08\x01", 0x01, b"\x02\x01");
-    let b = exchange(b, b"\x08\x01", 0x04, b"");
+    let b = exchange(b, b"\x07", 0x01, 0x04);
+    let b = exchange(b, b"\x08\x01", 0x01, 0x02);
+    let b = exchange(b, b"\x08\x01", 0x04, 0);
     finish(
         b,
         b"departs (the first response is confirmed before the next write)",
@@ -39,60 +38,83 @@ fn run_second_stop() {
 // A write by a client that does not hold control.
 fn run_stranger(number: u8, sent: &[u8], result: u8) {
     let b = begin(b"SPE/BV-", number, b"", ready());
-    finish(exchange(b, sent, result, b""), b"pass");
+    finish(exchange(b, sent, result, 0), b"pass");
 }
 
-// Two values outside a range.
-fn run_outside(b: Bench, below: &[u8], above: &[u8]) {
-    let b = exchange(b, below, 0x03, b"");
-    finish(exchange(b, above, 0x03, b""), b"pass");
+// Two writes that are answered alike.
+fn run_pair(
+    group: &[u8],
+    number: u8,
+    words: &[u8],
+    one: &[u8],
+    two: &[u8],
+    result: u8,
+    status: u8,
+) {
+    let b = begin(group, number, words, holding());
+    let b = exchange(b, one, result, status);
+    finish(exchange(b, two, result, status), b"pass");
 }
 
-// Alternatives 1 and 3: a value below the range, and one above it.
-fn run_beyond(number: u8, below: &[u8], above: &[u8]) {
-    let b = begin(b"SPE/BI-", number, b" alternatives 1, 3", holding());
-    run_outside(b, below, above);
-}
-
-// Alternatives 2 and 4: the least and the greatest value of a range, which are allowed.
-fn run_ends(number: u8, least: &[u8], status: &[u8], greatest: &[u8], next: &[u8]) {
-    let b = begin(b"SPE/BI-", number, b" alternatives 2, 4", holding());
-    let b = exchange(b, least, 0x01, status);
-    finish(exchange(b, greatest, 0x01, next), b"pass");
+// A range: values below it and above it, then its least and its greatest, which are allowed.
+fn run_range(number: u8, below: &[u8], above: &[u8], least: &[u8], greatest: &[u8], status: u8) {
+    run_pair(
+        b"SPE/BI-",
+        number,
+        b" alternatives 1, 3",
+        below,
+        above,
+        0x03,
+        0,
+    );
+    run_pair(
+        b"SPE/BI-",
+        number,
+        b" alternatives 2, 4",
+        least,
+        greatest,
+        0x01,
+        status,
+    );
 }
 
 // Speeds above their range.
 fn run_speeds() {
-    let b = begin(b"SPE/BV-", 4, b"", holding());
-    run_outside(b, b"\x02\x71\x17", b"\x02\xFF\xFF");
+    run_pair(
+        b"SPE/BV-",
+        4,
+        b"",
+        b"\x02\x71\x17",
+        b"\x02\xFF\xFF",
+        0x03,
+        0,
+    );
 }
 
-// Inclination and resistance outside their ranges, and at both ends.
+// Inclination and resistance.
 fn run_ranges() {
-    run_beyond(5, b"\x03\x9B\xFF", b"\x03\x97\x00");
-    run_ends(
+    run_range(
         5,
+        b"\x03\x9B\xFF",
+        b"\x03\x97\x00",
         b"\x03\x9C\xFF",
-        b"\x06\x9C\xFF",
         b"\x03\x96\x00",
-        b"\x06\x96\x00",
+        0x06,
     );
-    run_beyond(6, b"\x04\x09", b"\x04\x65");
-    run_ends(6, b"\x04\x0A", b"\x07\x0A", b"\x04\x64", b"\x07\x64");
+    run_range(6, b"\x04\x09", b"\x04\x65", b"\x04\x0A", b"\x04\x64", 0x07);
 }
 
-// The same of power and heart rate.
+// Power and heart rate.
 fn run_efforts() {
-    run_beyond(7, b"\x05\x09\x00", b"\x05\xF5\x01");
-    run_ends(
+    run_range(
         7,
+        b"\x05\x09\x00",
+        b"\x05\xF5\x01",
         b"\x05\x0A\x00",
-        b"\x08\x0A\x00",
         b"\x05\xF4\x01",
-        b"\x08\xF4\x01",
+        0x08,
     );
-    run_beyond(8, b"\x06\x3B", b"\x06\xC9");
-    run_ends(8, b"\x06\x3C", b"\x09\x3C", b"\x06\xC8", b"\x09\xC8");
+    run_range(8, b"\x06\x3B", b"\x06\xC9", b"\x06\x3C", b"\x06\xC8", 0x09);
 }
 
 pub(crate) fn run_all() {

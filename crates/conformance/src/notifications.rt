@@ -15,18 +15,24 @@ use record::layout::STAIR_CLIMBER;
 use record::layout::STEP_CLIMBER;
 use record::layout::TREADMILL;
 
-fn begin(number: u8, words: &[u8], kind: u8) {
+// A record as it is notified.
+fn run_record(number: u8, words: &[u8], kind: u8, groups: u32, verdict: &[u8]) {
     print_case(b"CN/BV-", number, words);
     print_number(b" kind ", kind as u64);
+    conclude(notify_record(kind, groups), verdict);
 }
 
 // A complete record, without energy and with it: the main group comes with More Data 0.
 fn run_complete(number: u8, kind: u8, energy: u32, verdict: &[u8]) {
     let all = listed(kind);
-    begin(number, b" steps 1 to 5 without energy", kind);
-    conclude(notify_record(kind, all ^ energy), b"pass");
-    begin(number, b" steps 1 to 5 with energy", kind);
-    conclude(notify_record(kind, all), verdict);
+    run_record(
+        number,
+        b" steps 1 to 5 without energy",
+        kind,
+        all ^ energy,
+        b"pass",
+    );
+    run_record(number, b" steps 1 to 5 with energy", kind, all, verdict);
     print_case(
         b"CN/BV-",
         number,
@@ -36,7 +42,8 @@ fn run_complete(number: u8, kind: u8, energy: u32, verdict: &[u8]) {
 
 // A record with the groups of a feature, which the machine says that it supports.
 fn run_groups(number: u8, words: &[u8], kind: u8, feature: u8, groups: u32, verdict: &[u8]) {
-    begin(number, words, kind);
+    print_case(b"CN/BV-", number, words);
+    print_number(b" kind ", kind as u64);
     print_number(b" feature ", feature as u64);
     let right = notify_record(kind, groups);
     conclude(right && supports(feature), verdict);
@@ -58,7 +65,7 @@ fn run_energy(number: u8, kind: u8, groups: u32) {
     );
 }
 
-// The value of the second record, after a link loss, is no earlier than 9 seconds after the first.
+// A record with the elapsed time; a second one, after a link loss and 9 seconds later, is outside.
 fn run_elapsed(number: u8, kind: u8, groups: u32, last: u8) {
     run_groups(
         number,
