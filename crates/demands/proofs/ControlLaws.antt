@@ -8,6 +8,7 @@ pub mod History
 pub mod Settings
 pub mod Alive
 pub mod Cases
+pub mod Rules
 pub mod Meets
 pub mod Ours
 pub mod Possible

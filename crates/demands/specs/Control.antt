@@ -2,3 +2,4 @@
 pub mod Point
 pub mod Laws
 pub mod Cases
+pub mod Rules
