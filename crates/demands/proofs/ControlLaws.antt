@@ -5,10 +5,12 @@ pub mod Places
 pub mod Kept
 pub mod Changes
 pub mod History
+pub mod Remembered
 pub mod Settings
 pub mod Alive
 pub mod Cases
 pub mod Rules
 pub mod Meets
+pub mod Liars
 pub mod Ours
 pub mod Possible

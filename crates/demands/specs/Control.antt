@@ -1,5 +1,6 @@
 -- The control point over sequences of calls.
 pub mod Point
 pub mod Laws
+pub mod History
 pub mod Cases
 pub mod Rules

@@ -140,7 +140,7 @@ sound-step k q s = sound-stepped k s (steps k q)
 
 -- ---- sequences of calls from opening
 
-all-absent : (n c : ℕ) → getD (replicate n absent) c absent ≡ absent
+pub all-absent : (n c : ℕ) → getD (replicate n absent) c absent ≡ absent
 all-absent zero c = refl
 all-absent (suc n) zero = refl
 all-absent (suc n) (suc c) = all-absent n c

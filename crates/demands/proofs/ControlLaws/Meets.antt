@@ -72,10 +72,10 @@ module _ {S R : Type 0} (p : Point S) (r : Point R) (a : Answers p) (b : Answers
 -- ---- wrong ones
 
 -- a machine with no target setting, and every range at 0
-abbrev plain : Opening
+abbrev pub plain : Opening
 plain = record { feature = 0 ∷ 0 ∷ 0 ∷ 0 ∷ 0 ∷ 0 ∷ 0 ∷ 0 ∷ []; ranges = closed .machine .setup .ranges }
 
-opens-so : opened plain ≡ given closed
+pub opens-so : opened plain ≡ given closed
 unfolding opened number
 opens-so = refl
 

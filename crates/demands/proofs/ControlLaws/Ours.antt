@@ -15,6 +15,7 @@ use Rattle.service.specs.declared.control.judging.WriteResult.the-variants.{Suc
 use Rattle.service.specs.Control.OpCodes.{op-code}
 use Rattle.service.specs.Control.Judging.{result-number}
 use Rattle.service.specs.Control.Effects.{setting}
+use Rattle.service.specs.Control.Console.{is-connected, is-indicating}
 use Rattle.service.specs.Control.Replies.{Sent, refusal-of, meant}
 use Rattle.service.specs.Control.Calls.{Opening, opening, opened, open-reply}
 use Rattle.service.proofs.control.Console.open.Reads as open-code
@@ -25,9 +26,11 @@ use Rattle.service.proofs.control.Console.confirm.Reads as confirm-code
 use Rattle.service.proofs.control.Console.write.Reads as write-code
 use Rattle.demands.specs.Control.Point.{Call, connect, disconnect, confirm, indicate, write, Point, service, Event, event, step, run, Answers}
 use Rattle.demands.specs.Control.Laws.{Sound, stores, by, result-in, holder-by, setting-by, Heard, Unchanged, ByAnother, Spared}
+use Rattle.demands.specs.Control.History.{mode-by, awaited-by, connected-by, indicating-by}
 use Rattle.demands.proofs.ControlLaws.Kept.{sound-step, sound-after}
 use Rattle.demands.proofs.ControlLaws.Changes.{refusals, by-another}
 use Rattle.demands.proofs.ControlLaws.History.{holder-by-history}
+use Rattle.demands.proofs.ControlLaws.Remembered.{mode-by-history, awaited-by-history, connected-by-history, indicating-by-history}
 use Rattle.demands.proofs.ControlLaws.Settings.{setting-by-history, granted-to-holder}
 use Rattle.demands.proofs.ControlLaws.Alive.{alive-after}
 use Rattle.demands.proofs.ControlLaws.Meets.{by-reading, read-same}
@@ -113,11 +116,15 @@ runs-alike over = refl
 runs-alike {past = past} (then {q = q} {qs = qs} d r) =
     runs-alike r ∙ ap (λ (x : Answer Sent × Console). run service (x .1) (event q (x .0) ∷ past) qs) (steps-alike d)
 
--- after any sequence of calls from an opening, what happened and the console: it is sound; its holder and each setting are those of what
--- happened; and each client can be brought to write again
+-- after any sequence of calls from an opening, what happened and the console: it is sound; its holder, mode, awaited response, clients and each
+-- setting are those of what happened; and each client can be brought to write again
 pub record Lawful (z : List Event × Console) : Type 0 where
   pub sound : Sound (z .1)
   pub holder-so : z .1 .machine .holder ≡ holder-by (z .0) []
+  pub mode-so : z .1 .machine .mode ≡ mode-by (z .0)
+  pub awaited-so : z .1 .awaited ≡ awaited-by (z .0)
+  pub connected-so : (c : ℕ) → is-connected (z .1) c ≡ connected-by c (z .0)
+  pub indicating-so : (c : ℕ) → is-indicating (z .1) c ≡ indicating-by c (z .0)
   pub setting-so : (i : ℕ) → stores (op-code i) ≡ true → setting (z .1 .machine) i ≡ setting-by i (z .0)
   pub alive : (c : ℕ) → c ≤ 3 → (more : List Call) × Heard (run service (z .1) [] more .1) c
 
@@ -127,6 +134,10 @@ ours-lawful {o} {k} {qs} d ran =
     rw (runs-alike ran) (record {
       sound = sound-after o k e qs;
       holder-so = holder-by-history o k e qs;
+      mode-so = mode-by-history o k e qs;
+      awaited-so = awaited-by-history o k e qs;
+      connected-so = λ c. connected-by-history c o k e qs;
+      indicating-so = λ c. indicating-by-history c o k e qs;
       setting-so = λ i t. setting-by-history o k e qs i t;
       alive = λ c h. alive-after o k e qs c h;
     })

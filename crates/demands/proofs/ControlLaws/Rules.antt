@@ -5,10 +5,10 @@ use mathlib.Core.Bool.{Bool, true, false, cond, not, _&&_, _||_}
 use mathlib.Core.List.{List, [], _∷_, map}
 use native.Mathlib.Omega.{arith}
 use lib.Dec.{eqb}
-use lib.ListN.{length, getD, drop, replicate}
+use lib.ListN.{length, getD, drop}
 use Rattle.record.specs.declared.layout.Width.{Width}
 use Rattle.record.specs.declared.feature.Feature.{Feature}
-use Rattle.record.specs.Octets.{number, placed}
+use Rattle.record.specs.Octets.{number}
 use Rattle.record.proofs.Tests.{passed, failed, tested, all}
 use Rattle.service.specs.declared.control.ranges.Ranges.{Ranges}
 use Rattle.service.specs.declared.control.machine.Machine.{Machine}
