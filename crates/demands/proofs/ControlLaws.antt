@@ -9,6 +9,7 @@ pub mod Remembered
 pub mod Settings
 pub mod Alive
 pub mod Cases
+pub mod Worked
 pub mod Rules
 pub mod Meets
 pub mod Liars

@@ -3,4 +3,5 @@ pub mod Point
 pub mod Laws
 pub mod History
 pub mod Cases
+pub mod Worked
 pub mod Rules

@@ -37,7 +37,7 @@ among (x ∷ xs) o = eqb x o || among xs o
 -- those of a list that a test picks, and their sum
 abbrev pub picked : (ℕ → Bool) → List ℕ → List ℕ
 picked f [] = []
-picked f (x ∷ xs) = cond (f x) (x ∷ picked f xs) (picked f xs)
+picked f (x ∷ xs) = let rest : List ℕ = picked f xs in cond (f x) (x ∷ rest) rest
 
 abbrev pub sum : List ℕ → ℕ
 sum [] = 0

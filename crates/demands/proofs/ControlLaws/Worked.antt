@@ -1,0 +1,40 @@
+-- The worked cases with their states hold, by computation.
+use mathlib.Core.Path.{_≡_, refl}
+use mathlib.Core.List.{map}
+use Rattle.record.specs.Groups.{has}
+use Rattle.record.specs.Octets.{number}
+use Rattle.service.specs.Control.OpCodes.{op-code}
+use Rattle.service.specs.Control.Judging.{fit, judged}
+use Rattle.service.specs.Control.Effects.{setting}
+use Rattle.service.specs.Control.Calls.{opened, connects, disconnects, indicates, confirms, writes}
+use Rattle.demands.specs.Control.Point.{run}
+use Rattle.demands.specs.Control.Worked.Seen.{told, each, in-turn, found}
+use Rattle.demands.specs.Control.Worked.Modes.{modes}
+use Rattle.demands.specs.Control.Worked.Ends.{ends}
+use Rattle.demands.specs.Control.Worked.Openings.{opened-to, expected-to}
+use Rattle.demands.specs.Control.Worked.Callers.{callers}
+use Rattle.demands.specs.Control.Worked.Courses.{courses, each-setting}
+
+pub modes-hold : map (found each) modes ≡ map told modes
+unfolding number has op-code fit judged setting opened connects disconnects indicates confirms writes run
+modes-hold = refl
+
+pub ends-hold : map (found each) ends ≡ map told ends
+unfolding number has op-code fit judged setting opened connects disconnects indicates confirms writes run
+ends-hold = refl
+
+pub openings-hold : opened-to ≡ expected-to
+unfolding number opened op-code setting
+openings-hold = refl
+
+pub callers-hold : map (found each) callers ≡ map told callers
+unfolding number has op-code fit judged setting opened connects disconnects indicates confirms writes run
+callers-hold = refl
+
+pub courses-hold : map (found in-turn) courses ≡ map told courses
+unfolding number has op-code fit judged setting opened connects disconnects indicates confirms writes run
+courses-hold = refl
+
+pub each-setting-holds : found each each-setting ≡ told each-setting
+unfolding number has op-code fit judged setting opened connects disconnects indicates confirms writes run
+each-setting-holds = refl

@@ -1,0 +1,7 @@
+-- Worked cases of the control point with the state after each: each table is complete in what its first line names.
+pub mod Seen
+pub mod Modes
+pub mod Ends
+pub mod Openings
+pub mod Callers
+pub mod Courses
