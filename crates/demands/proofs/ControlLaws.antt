@@ -11,6 +11,7 @@ pub mod Alive
 pub mod Cases
 pub mod Worked
 pub mod Rules
+pub mod Answered
 pub mod Meets
 pub mod Liars
 pub mod Ours

@@ -5,3 +5,4 @@ pub mod History
 pub mod Cases
 pub mod Worked
 pub mod Rules
+pub mod Answered

@@ -6,7 +6,9 @@ use mathlib.Core.Bool.{Bool, true}
 use mathlib.Core.List.{List, [], _∷_}
 use base.Fml.{Lft}
 use denote.Ref.{RefT, now}
+use Rattle.record.specs.declared.feature.Feature.{Feature}
 use Rattle.record.specs.Answer.{Answer, refused, given}
+use Rattle.record.specs.Feature.{feature-of}
 use Rattle.service.specs.declared.control.Console.{Console}
 use Rattle.service.specs.declared.control.Reply.{Reply}
 use Rattle.service.specs.declared.control.ranges.Ranges.{Ranges}
@@ -27,10 +29,12 @@ use Rattle.service.proofs.control.Console.write.Reads as write-code
 use Rattle.demands.specs.Control.Point.{Call, connect, disconnect, confirm, indicate, write, Point, service, Event, event, step, run, Answers}
 use Rattle.demands.specs.Control.Laws.{Sound, stores, by, result-in, holder-by, setting-by, Heard, Unchanged, ByAnother, Spared}
 use Rattle.demands.specs.Control.History.{mode-by, awaited-by, connected-by, indicating-by}
+use Rattle.demands.specs.Control.Answered.{answer-by, OctetIn}
 use Rattle.demands.proofs.ControlLaws.Kept.{sound-step, sound-after}
 use Rattle.demands.proofs.ControlLaws.Changes.{refusals, by-another}
 use Rattle.demands.proofs.ControlLaws.History.{holder-by-history}
 use Rattle.demands.proofs.ControlLaws.Remembered.{mode-by-history, awaited-by-history, connected-by-history, indicating-by-history}
+use Rattle.demands.proofs.ControlLaws.Answered.{answers-by-history}
 use Rattle.demands.proofs.ControlLaws.Settings.{setting-by-history, granted-to-holder}
 use Rattle.demands.proofs.ControlLaws.Alive.{alive-after}
 use Rattle.demands.proofs.ControlLaws.Meets.{by-reading, read-same}
@@ -141,3 +145,12 @@ ours-lawful {o} {k} {qs} d ran =
       setting-so = λ i t. setting-by-history o k e qs i t;
       alive = λ c h. alive-after o k e qs c h;
     })
+
+-- and whatever the code answers next is what the history and the rules of the op codes say
+pub ours-answered : {o : Opening} {k : Console} {qs : List Call} {z : List Event × Console} {q : Call} {x : Answer Sent × Console} →
+    DidOpen o (given k) → Ran k [] qs z → Did (z .1) q x → (f : Feature) → feature-of (o .feature) ≡ given f → OctetIn q →
+    x .0 ≡ answer-by (record { feature = f; ranges = o .ranges }) (z .0) q
+ours-answered {o} {k} {qs} {z} {q} d ran did f e w =
+    ap (λ (x : Answer Sent × Console). x .0) (steps-alike did) ∙ ap (λ (z : List Event × Console). step (z .1) q .0) (runs-alike ran) ∙
+    answers-by-history o f e k (sym (opens-alike d)) qs q w ∙
+    ap (λ (z : List Event × Console). answer-by (record { feature = f; ranges = o .ranges }) (z .0) q) (sym (runs-alike ran))

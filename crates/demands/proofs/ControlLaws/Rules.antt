@@ -176,7 +176,7 @@ module _ (m : Machine) (c : ℕ) (p : List ℕ) where
       cond (eqb o 0x00) (someone (without (m .holder) c))
       (cond (eqb o 0x07) (runs (m .mode)) (cond (eqb o 0x08) (no-halt (m .mode) (number 1 p)) false))
 
-  failing-rule : (o : ℕ) → failing o ≡ rule.fails m c o p
+  failing-rule : (o : ℕ) → failing o ≡ rule.fails (m .setup) (m .holder) (m .mode) c o p
   failing-rule o = λ i.
       cond (eqb o 0x00) (another-so (m .holder) c i)
       (cond (eqb o 0x07) (runs-so (m .mode) i) (cond (eqb o 0x08) (halts-so (m .mode) (number 1 p) i) false))
@@ -196,10 +196,10 @@ module _ (m : Machine) (c : ℕ) (p : List ℕ) where
   numbered true true true true = refl
 
   -- "A write is judged in this order": the result's number, of every machine, client, octet and parameter
-  pub result-so : (o : ℕ) → o ≤ 255 → result-number (result m c o p) ≡ rule.result m c o p
+  pub result-so : (o : ℕ) → o ≤ 255 → result-number (result m c o p) ≡ rule.result (m .setup) (m .holder) (m .mode) c o p
   result-so o h =
       let s : supported-by (m .setup .feature) (op-code o) ≡ rule.supported (m .setup .feature .targets) o = supported-so (m .setup .feature) o h in
       ap result-number (judged-by (op-code o)) ∙
       (λ i. result-number (first-of (s i) (controlled-so o h i) (fit-so o h i) ((failing-so o h ∙ failing-rule o) i))) ∙
       numbered (rule.supported (m .setup .feature .targets) o) (eqb o 0x00 || is (m .holder) c)
-      (eqb (length p) (rule.size o) && rule.allowed (m .setup .ranges) o p) (rule.fails m c o p)
+      (eqb (length p) (rule.size o) && rule.allowed (m .setup .ranges) o p) (rule.fails (m .setup) (m .holder) (m .mode) c o p)

@@ -14,6 +14,7 @@ use Rattle.demands.specs.Control.Worked.Ends.{ends}
 use Rattle.demands.specs.Control.Worked.Openings.{opened-to, expected-to}
 use Rattle.demands.specs.Control.Worked.Callers.{callers}
 use Rattle.demands.specs.Control.Worked.Courses.{courses, each-setting}
+use Rattle.demands.specs.Control.Worked.Needs.{needs}
 
 pub modes-hold : map (found each) modes ≡ map told modes
 unfolding number has op-code fit judged setting opened connects disconnects indicates confirms writes run
@@ -38,3 +39,7 @@ courses-hold = refl
 pub each-setting-holds : found each each-setting ≡ told each-setting
 unfolding number has op-code fit judged setting opened connects disconnects indicates confirms writes run
 each-setting-holds = refl
+
+pub needs-hold : map (found each) needs ≡ map told needs
+unfolding number has op-code fit judged setting opened connects disconnects indicates confirms writes run
+needs-hold = refl

@@ -11,7 +11,7 @@ use Rattle.record.specs.declared.layout.Width.the-variants.{U8, U16, U24, S16}
 use Rattle.record.specs.Groups.{has}
 use Rattle.record.specs.Octets.{number, signed, placed}
 use Rattle.service.specs.declared.control.ranges.Ranges.{Ranges}
-use Rattle.service.specs.declared.control.machine.Machine.{Machine}
+use Rattle.service.specs.declared.control.machine.Setup.{Setup}
 use Rattle.service.specs.declared.control.machine.Mode.{Mode}
 use Rattle.service.specs.declared.control.machine.Mode.the-variants.{Stopped, Running, Paused}
 use Rattle.service.specs.declared.control.machine.Who.{Who}
@@ -144,19 +144,20 @@ abbrev pub another : Who → ℕ → Bool
 another Nobody c = false
 another (Client d) c = not (eqb d c)
 
-module _ (m : Machine) (c o : ℕ) (p : List ℕ) where
+-- of a machine that was opened so, its holder and its mode; a client's op code and parameter
+module _ (s : Setup) (h : Who) (m : Mode) (c o : ℕ) (p : List ℕ) where
   -- "04 when 00 finds another holder, 07 finds running, 08 with 1 finds stopped, or 08 with 2 finds anything but running"
   abbrev pub fails : Bool
   fails =
-      cond (eqb o 0x00) (another (m .holder) c)
-      (cond (eqb o 0x07) (running (m .mode))
-      (cond (eqb o 0x08) (cond (eqb (number 1 p) 1) (stopped (m .mode)) (not (running (m .mode)))) false))
+      cond (eqb o 0x00) (another h c)
+      (cond (eqb o 0x07) (running m)
+      (cond (eqb o 0x08) (cond (eqb (number 1 p) 1) (stopped m) (not (running m))) false))
 
   -- "unsupported op code, result 02; not the holder (but for 00), 05; wrong length, value outside its range or 08 with neither 1 nor 2, result
   -- 03; then 04 when ..; else 01"
   abbrev pub result : ℕ
   result =
-      cond (not (supported (m .setup .feature .targets) o)) 0x02
-      (cond (not (eqb o 0x00 || is (m .holder) c)) 0x05
-      (cond (not (eqb (length p) (size o) && allowed (m .setup .ranges) o p)) 0x03
+      cond (not (supported (s .feature .targets) o)) 0x02
+      (cond (not (eqb o 0x00 || is h c)) 0x05
+      (cond (not (eqb (length p) (size o) && allowed (s .ranges) o p)) 0x03
       (cond fails 0x04 0x01)))

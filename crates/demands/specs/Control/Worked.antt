@@ -5,3 +5,4 @@ pub mod Ends
 pub mod Openings
 pub mod Callers
 pub mod Courses
+pub mod Needs

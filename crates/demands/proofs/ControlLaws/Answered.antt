@@ -1,0 +1,129 @@
+-- The service answers by its history.
+use Prim.Native.Nat.{ℕ, _≤_}
+use mathlib.Core.Path.{_≡_, refl, sym, ap, _∙_}
+use mathlib.Core.Bool.{cond}
+use mathlib.Core.List.{List, [], _∷_}
+use native.Mathlib.Omega.{arith}
+use lib.Dec.{eqb, ltb}
+use lib.ListN.{length, getD, drop}
+use Rattle.record.specs.declared.feature.Feature.{Feature}
+use Rattle.record.specs.Answer.{Answer, refused, given}
+use Rattle.record.specs.Feature.{feature-of}
+use Rattle.record.proofs.Tests.{passed, failed, tested}
+use Rattle.service.specs.declared.control.Console.{Console}
+use Rattle.service.specs.declared.control.machine.Setup.{Setup}
+use Rattle.service.specs.declared.control.judging.WriteResult.{WriteResult}
+use Rattle.service.specs.declared.control.judging.WriteResult.the-variants.{Success, NotSupported, InvalidParameter, OperationFailed, ControlNotPermitted}
+use Rattle.service.specs.Control.Machine.{usable, is, someone}
+use Rattle.service.specs.Control.Judging.{result-number, succeeds, result}
+use Rattle.service.specs.Control.Effects.{status-after, response-octets}
+use Rattle.service.specs.Control.Console.{is-connected, is-indicating, first}
+use Rattle.service.specs.Control.Replies.{sent}
+use Rattle.service.specs.Control.Calls.{Opening, open-with, opened, connects, disconnects, indicates, confirms, writes}
+use Rattle.service.proofs.ControlLaws.Answers.{setup-of}
+use Rattle.demands.specs.Control.Point.{Call, connect, disconnect, confirm, indicate, write, service, Event, step, run}
+use Rattle.demands.specs.Control.Laws.{holder-by}
+use Rattle.demands.specs.Control.History.{mode-by, awaited-by, connected-by, indicating-by}
+use Rattle.demands.specs.Control.Rules as rule
+use Rattle.demands.specs.Control.Answered.{response-by, answer-by, OctetIn, AnswersByHistory}
+use Rattle.demands.proofs.ControlLaws.Rules.{status-so, result-so}
+use Rattle.demands.proofs.ControlLaws.Changes.{fixed-at-opening}
+use Rattle.demands.proofs.ControlLaws.Kept.{run-keeps}
+use Rattle.demands.proofs.ControlLaws.History.{holder-by-history}
+use Rattle.demands.proofs.ControlLaws.Remembered.{mode-by-history, awaited-by-history, connected-by-history, indicating-by-history}
+
+-- 01 alone is a success
+success-01 : (r : WriteResult) → succeeds r ≡ eqb (result-number r) 0x01
+success-01 Success = refl
+success-01 NotSupported = refl
+success-01 InvalidParameter = refl
+success-01 OperationFailed = refl
+success-01 ControlNotPermitted = refl
+
+-- a console of which the history says everything
+record Told (s : Setup) (past : List Event) (k : Console) : Type 0 where
+  setup-so : k .machine .setup ≡ s
+  holder-so : k .machine .holder ≡ holder-by past []
+  mode-so : k .machine .mode ≡ mode-by past
+  awaited-so : k .awaited ≡ awaited-by past
+  connected-so : (c : ℕ) → is-connected k c ≡ connected-by c past
+  indicating-so : (c : ℕ) → is-indicating k c ≡ indicating-by c past
+
+module _ (s : Setup) (past : List Event) (k : Console) (t : Told s past k) where
+  response-so : (c o : ℕ) (p : List ℕ) → o ≤ 255 →
+      sent (response-octets o (result (k .machine) c o p)) (status-after (k .machine) c o p) ≡ response-by s past c o p
+  response-so c o p h =
+      let r : WriteResult = result (k .machine) c o p in
+      let n : result-number r ≡ rule.result s (holder-by past []) (mode-by past) c o p =
+      result-so (k .machine) c p o h ∙ (λ i. rule.result (t .setup-so i) (t .holder-so i) (t .mode-so i) c o p) in
+      (λ i. sent (0x80 ∷ o ∷ n i ∷ []) (cond ((success-01 r ∙ ap (λ (x : ℕ). eqb x 0x01) n) i) (status-so p o h i) []))
+
+  answer-so : (q : Call) → OctetIn q → step k q .0 ≡ answer-by s past q
+  unfolding connects disconnects indicates confirms writes
+  answer-so (connect c) h = elim (tested (ltb 3 c)) [
+    | passed e ↦ rw e
+    | failed e ↦ elim (tested (connected-by c past)) [
+      | passed f ↦ rw (e, t .connected-so c, f)
+      | failed f ↦ rw (e, t .connected-so c, f)
+    ]
+  ]
+  answer-so (disconnect c) h = elim (tested (ltb 3 c)) [
+    | passed e ↦ rw e
+    | failed e ↦ elim (tested (connected-by c past)) [
+      | passed f ↦ rw (e, t .connected-so c, f)
+      | failed f ↦ rw (e, t .connected-so c, f)
+    ]
+  ]
+  answer-so (indicate c on) h = elim (tested (ltb 3 c)) [
+    | passed e ↦ rw e
+    | failed e ↦ elim (tested (connected-by c past)) [
+      | passed f ↦ rw (e, t .connected-so c, f)
+      | failed f ↦ rw (e, t .connected-so c, f)
+    ]
+  ]
+  answer-so (confirm c) h = elim (tested (ltb 3 c)) [
+    | passed e ↦ rw e
+    | failed e ↦ elim (tested (connected-by c past)) [
+      | failed f ↦ rw (e, t .connected-so c, f)
+      | passed f ↦ elim (tested (is (awaited-by past) c)) [
+        | passed g ↦ rw (e, t .connected-so c, f, t .awaited-so, g)
+        | failed g ↦ rw (e, t .connected-so c, f, t .awaited-so, g)
+      ]
+    ]
+  ]
+  answer-so (write c w) h = elim (tested (ltb 3 c)) [
+    | passed e ↦ rw e
+    | failed e ↦ elim (tested (connected-by c past)) [
+      | failed f ↦ rw (e, t .connected-so c, f)
+      | passed f ↦ elim (tested (eqb (length w) 0)) [
+        | passed g ↦ rw (e, t .connected-so c, f, g)
+        | failed g ↦ elim (tested (indicating-by c past)) [
+          | failed i ↦ rw (e, t .connected-so c, f, g, t .indicating-so c, i)
+          | passed i ↦ elim (tested (someone (awaited-by past))) [
+            | passed j ↦ rw (e, t .connected-so c, f, g, t .indicating-so c, i, t .awaited-so, j)
+            | failed j ↦ rw (e, t .connected-so c, f, g, t .indicating-so c, i, t .awaited-so, j) (response-so c (getD w 0 0) (drop 1 w) h)
+          ]
+        ]
+      ]
+    ]
+  ]
+
+-- what a machine is opened with, and has from then on
+opened-so : (o : Opening) (f : Feature) (k : Console) → feature-of (o .feature) ≡ given f → opened o ≡ given k → k .machine .setup ≡ setup-of f o
+unfolding opened
+opened-so o f k e h =
+    let g : open-with (given f) (o .ranges) ≡ given k = ap (λ (a : Answer Feature). open-with a (o .ranges)) (sym e) ∙ h in
+    elim (tested (usable (setup-of f o))) [
+      | passed u ↦ (let z : given (first (setup-of f o)) ≡ given k = rw u at g in let y : first (setup-of f o) ≡ k = cc in ap (λ (x : Console). x .machine .setup) (sym y))
+      | failed u ↦ absurd (let z : _≡_ {A = Answer Console} (refused 16) (given k) = rw u at g in let y : _≡_ {A = ℕ} 0 1 = cc in omega arith)
+    ]
+
+pub answers-by-history : AnswersByHistory service
+answers-by-history o f e k h qs q w = answer-so (setup-of f o) (run service k [] qs .0) (run service k [] qs .1) (record {
+  setup-so = run-keeps (λ x. x .machine .setup ≡ setup-of f o) (λ x q s. fixed-at-opening x q ∙ s) k [] qs (opened-so o f k e h);
+  holder-so = holder-by-history o k h qs;
+  mode-so = mode-by-history o k h qs;
+  awaited-so = awaited-by-history o k h qs;
+  connected-so = λ c. connected-by-history c o k h qs;
+  indicating-so = λ c. indicating-by-history c o k h qs;
+}) q w

@@ -1,0 +1,57 @@
+-- Every answer by what has happened alone: the control point a second time, by its history and by the rules of the op codes, and by no console.
+use Prim.Native.Nat.{ℕ, _≤_}
+use mathlib.Core.Path.{_≡_}
+use mathlib.Core.Bool.{cond, not}
+use mathlib.Core.List.{List, [], _∷_}
+use lib.Dec.{eqb, ltb}
+use lib.ListN.{length, getD, drop}
+use Rattle.record.specs.declared.feature.Feature.{Feature}
+use Rattle.record.specs.Answer.{Answer, refused, given}
+use Rattle.record.specs.Feature.{feature-of}
+use Rattle.service.specs.declared.control.machine.Setup.{Setup}
+use Rattle.service.specs.Control.Machine.{is, someone}
+use Rattle.service.specs.Control.Replies.{Sent, sent}
+use Rattle.service.specs.Control.Calls.{Opening}
+use Rattle.demands.specs.Control.Point.{Call, connect, disconnect, confirm, indicate, write, Point, Event, run}
+use Rattle.demands.specs.Control.Laws.{holder-by}
+use Rattle.demands.specs.Control.History.{mode-by, awaited-by, connected-by, indicating-by}
+use Rattle.demands.specs.Control.Rules.{status, result}
+
+-- what a machine was opened with, and what has happened since, the newest first
+module _ (s : Setup) (past : List Event) where
+  -- "connect, disconnect and indications 10, 17"; "10: client above 3", "17: client not connected; for connect, already connected"
+  abbrev pub present : ℕ → Answer Sent → Answer Sent
+  present c x = cond (ltb 3 c) (refused 10) (cond (not (connected-by c past)) (refused 17) x)
+
+  -- "Response: 80, op code, result."; status octets where the result is 01
+  abbrev pub response-by : ℕ → ℕ → List ℕ → Answer Sent
+  response-by c o p =
+      let n : ℕ = result s (holder-by past []) (mode-by past) c o p in
+      sent (0x80 ∷ o ∷ n ∷ []) (cond (eqb n 0x01) (status o p) [])
+
+  -- "confirm 10, 17, 21"; "A write is judged in this order: 10, 17, 18, 19, 20", then by its result
+  abbrev pub answer-by : Call → Answer Sent
+  answer-by (connect c) = cond (ltb 3 c) (refused 10) (cond (connected-by c past) (refused 17) (sent [] []))
+  answer-by (disconnect c) = present c (sent [] [])
+  answer-by (confirm c) = present c (cond (not (is (awaited-by past) c)) (refused 21) (sent [] []))
+  answer-by (indicate c on) = present c (sent [] [])
+  answer-by (write c w) =
+      present c
+      (cond (eqb (length w) 0) (refused 18)
+      (cond (not (indicating-by c past)) (refused 19)
+      (cond (someone (awaited-by past)) (refused 20)
+      (response-by c (getD w 0 0) (drop 1 w)))))
+
+-- an op code is an octet
+abbrev pub OctetIn : Call → Type 0
+OctetIn (connect c) = Unit {0}
+OctetIn (disconnect c) = Unit {0}
+OctetIn (confirm c) = Unit {0}
+OctetIn (indicate c on) = Unit {0}
+OctetIn (write c w) = getD w 0 0 ≤ 255
+
+-- a control point whose next answer, after every sequence of calls from opening, is the one that this says
+abbrev pub AnswersByHistory : {S : Type 0} → Point S → Type 0
+AnswersByHistory {S} p = (o : Opening) (f : Feature) → feature-of (o .feature) ≡ given f → (x : S) → p .opening o ≡ given x →
+    (qs : List Call) (q : Call) → OctetIn q →
+    p .calling (run p x [] qs .1) q .0 ≡ answer-by (record { feature = f; ranges = o .ranges }) (run p x [] qs .0) q
