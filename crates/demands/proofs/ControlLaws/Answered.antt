@@ -2,7 +2,7 @@
 use Prim.Native.Nat.{ℕ, _≤_}
 use mathlib.Core.Path.{_≡_, refl, sym, ap, _∙_}
 use mathlib.Core.Bool.{cond}
-use mathlib.Core.List.{List, [], _∷_}
+use mathlib.Core.List.{List, [], _∷_, _++_, append-assoc, append-nil}
 use native.Mathlib.Omega.{arith}
 use lib.Dec.{eqb, ltb}
 use lib.ListN.{length, getD, drop}
@@ -21,11 +21,11 @@ use Rattle.service.specs.Control.Console.{is-connected, is-indicating, first}
 use Rattle.service.specs.Control.Replies.{sent}
 use Rattle.service.specs.Control.Calls.{Opening, open-with, opened, connects, disconnects, indicates, confirms, writes}
 use Rattle.service.proofs.ControlLaws.Answers.{setup-of}
-use Rattle.demands.specs.Control.Point.{Call, connect, disconnect, confirm, indicate, write, service, Event, step, run}
+use Rattle.demands.specs.Control.Point.{Call, connect, disconnect, confirm, indicate, write, Point, service, Event, event, step, run}
 use Rattle.demands.specs.Control.Laws.{holder-by}
 use Rattle.demands.specs.Control.History.{mode-by, awaited-by, connected-by, indicating-by}
 use Rattle.demands.specs.Control.Rules as rule
-use Rattle.demands.specs.Control.Answered.{response-by, answer-by, OctetIn, AnswersByHistory}
+use Rattle.demands.specs.Control.Answered.{response-by, answer-by, OctetIn, OctetsIn, AnswersByHistory}
 use Rattle.demands.proofs.ControlLaws.Rules.{status-so, result-so}
 use Rattle.demands.proofs.ControlLaws.Changes.{fixed-at-opening}
 use Rattle.demands.proofs.ControlLaws.Kept.{run-keeps}
@@ -127,3 +127,24 @@ answers-by-history o f e k h qs q w = answer-so (setup-of f o) (run service k []
   connected-so = λ c. connected-by-history c o k h qs;
   indicating-so = λ c. indicating-by-history c o k h qs;
 }) q w
+
+-- ---- no second control point answers by its history otherwise
+
+run-more : {S : Type 0} (p : Point S) (x : S) (past : List Event) (qs : List Call) (q : Call) →
+    run p x past (qs ++ q ∷ []) .0 ≡ event q (p .calling (run p x past qs .1) q .0) ∷ run p x past qs .0
+unfolding run
+run-more p x past [] q = refl
+run-more p x past (a ∷ qs) q = run-more p (p .calling x a .1) (event a (p .calling x a .0) ∷ past) qs q
+
+module _ {S R : Type 0} (p : Point S) (r : Point R) (a : AnswersByHistory p) (b : AnswersByHistory r) (o : Opening) (f : Feature)
+    (e : feature-of (o .feature) ≡ given f) (x : S) (g : p .opening o ≡ given x) (y : R) (h : r .opening o ≡ given y) where
+  decides : (past qs : List Call) → OctetsIn qs → run p x [] past .0 ≡ run r y [] past .0 → run p x [] (past ++ qs) .0 ≡ run r y [] (past ++ qs) .0
+  decides past [] w s = rw (append-nil past) s
+  decides past (q ∷ qs) w s =
+      let c : p .calling (run p x [] past .1) q .0 ≡ r .calling (run r y [] past .1) q .0 =
+      a o f e x g past q (w .0) ∙ ap (λ (l : List Event). answer-by (setup-of f o) l q) s ∙ sym (b o f e y h past q (w .0)) in
+      rw (← append-assoc past (q ∷ []) qs)
+      (decides (past ++ q ∷ []) qs (w .1) (run-more p x [] past q ∙ (λ i. event q (c i) ∷ s i) ∙ sym (run-more r y [] past q)))
+
+  pub history-decides : (qs : List Call) → OctetsIn qs → run p x [] qs .0 ≡ run r y [] qs .0
+  history-decides qs w = decides [] qs w (unfold run in refl)

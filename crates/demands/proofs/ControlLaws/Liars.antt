@@ -1,20 +1,29 @@
--- Control points that answer as the service does and keep a console that is wrong in one thing: each breaks the law of that thing.
-use mathlib.Core.Path.{sym, ap}
+-- Control points that are wrong in one thing, in the console that they keep or in an answer: each breaks the law of that thing.
+use Prim.Native.Nat.{ℕ}
+use mathlib.Core.Path.{_≡_, refl, sym, ap}
 use mathlib.Core.Bool.{true, false, cond, true≢false}
-use mathlib.Core.List.{[], _∷_, _++_}
-use lib.Dec.{eqb}
+use mathlib.Core.List.{List, [], _∷_, _++_}
+use native.Mathlib.Omega.{arith}
+use lib.Dec.{eqb, lit≤}
 use lib.ListN.{getD}
+use Rattle.record.specs.Answer.{Answer, given}
+use Rattle.record.specs.Feature.{feature-of}
+use Rattle.record.specs.Groups.{has}
 use Rattle.record.specs.Octets.{number}
 use Rattle.service.specs.declared.control.Console.{Console}
 use Rattle.service.specs.declared.control.machine.Mode.{Mode}
 use Rattle.service.specs.declared.control.machine.Mode.the-variants.{Stopped, Running, Paused}
+use Rattle.service.specs.declared.control.machine.Who.the-variants.{Nobody}
 use Rattle.service.specs.Control.OpCodes.{op-code}
-use Rattle.service.specs.Control.Machine.{someone, without, going}
+use Rattle.service.specs.Control.Machine.{is, someone, without, going}
 use Rattle.service.specs.Control.Judging.{fit, judged}
 use Rattle.service.specs.Control.Console.{closed, with-client, awaiting}
+use Rattle.service.specs.Control.Replies.{Sent, sent, refusal-of}
 use Rattle.service.specs.Control.Calls.{opened, connects, disconnects, indicates, confirms, writes}
 use Rattle.demands.specs.Control.Point.{Call, connect, disconnect, confirm, indicate, write, Point, step, run}
+use Rattle.demands.specs.Control.Laws.{result-in, holder-by}
 use Rattle.demands.specs.Control.History.{mode-by, awaited-by, connected-by, indicating-by, ModeByHistory, AwaitedByHistory, ConnectedByHistory, IndicatingByHistory}
+use Rattle.demands.specs.Control.Answered.{AnswersByHistory}
 use Rattle.demands.specs.Control.Cases.{ready, asks, holds}
 use Rattle.demands.specs.Control.Rules.{stopped}
 use Rattle.demands.proofs.ControlLaws.Meets.{plain, opens-so}
@@ -123,3 +132,52 @@ on-at-connect = altered shows
 pub on-at-connect-refuted : IndicatingByHistory on-at-connect → ⊥
 unfolding run connects indicating-by
 on-at-connect-refuted h = true≢false (h 0 plain closed opens-so (connect 0 ∷ []))
+
+-- ---- answers
+
+-- the service, but that the console before a call alters the answer to it
+abbrev pub retold : (Call → Console → Answer Sent → Answer Sent) → Point Console
+retold f = record { opening = opened; calling = λ k q. (f q k (step k q .0), step k q .1) }
+
+-- a write alone
+abbrev of-write : (ℕ → List ℕ → Console → Answer Sent → Answer Sent) → Call → Console → Answer Sent → Answer Sent
+of-write f (connect c) before a = a
+of-write f (disconnect c) before a = a
+of-write f (confirm c) before a = a
+of-write f (indicate c on) before a = a
+of-write f (write c s) before a = f c s before a
+
+-- 08 with 2 succeeds on a machine that is paused
+abbrev again : Mode → List ℕ → Answer Sent → Answer Sent
+again Stopped s a = a
+again Running s a = a
+again Paused s a = cond (eqb (number 2 s) 0x0208) (sent (0x80 ∷ 0x08 ∷ 0x01 ∷ []) (0x02 ∷ 2 ∷ [])) a
+
+abbrev pub pauses-again : Point Console
+pauses-again = retold (of-write (λ c s before a. again (before .machine .mode) s a))
+
+no-targets : feature-of (plain .feature) ≡ given (closed .machine .setup .feature)
+unfolding number
+no-targets = refl
+
+pub pauses-again-refuted : AnswersByHistory pauses-again → ⊥
+unfolding run connects indicates confirms writes op-code fit judged number has holder-by mode-by awaited-by connected-by indicating-by
+pauses-again-refuted h =
+    let e : _≡_ {A = ℕ} 0x01 0x04 =
+    ap result-in
+    (h plain (closed .machine .setup .feature) no-targets closed opens-so (holds 0 ++ asks 0 (0x07 ∷ []) ++ asks 0 (0x08 ∷ 2 ∷ []))
+    (write 0 (0x08 ∷ 2 ∷ [])) (lit≤ tt)) in
+    omega arith
+
+-- only the writer's own response keeps it from writing
+abbrev pub busy-alone : Point Console
+busy-alone = retold (of-write (λ c s before a. cond (is (before .awaited) c) a (writes (awaiting before Nobody) c s .0)))
+
+pub busy-alone-refuted : AnswersByHistory busy-alone → ⊥
+unfolding run connects indicates confirms writes op-code fit judged number has holder-by mode-by awaited-by connected-by indicating-by
+busy-alone-refuted h =
+    let e : _≡_ {A = ℕ} 0 20 =
+    ap refusal-of
+    (h plain (closed .machine .setup .feature) no-targets closed opens-so (ready 0 ++ ready 1 ++ write 0 (0x00 ∷ []) ∷ [])
+    (write 1 (0x00 ∷ [])) (lit≤ tt)) in
+    omega arith

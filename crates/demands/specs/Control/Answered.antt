@@ -50,6 +50,10 @@ OctetIn (confirm c) = Unit {0}
 OctetIn (indicate c on) = Unit {0}
 OctetIn (write c w) = getD w 0 0 ≤ 255
 
+abbrev pub OctetsIn : List Call → Type 0
+OctetsIn [] = Unit {0}
+OctetsIn (q ∷ qs) = OctetIn q × OctetsIn qs
+
 -- a control point whose next answer, after every sequence of calls from opening, is the one that this says
 abbrev pub AnswersByHistory : {S : Type 0} → Point S → Type 0
 AnswersByHistory {S} p = (o : Opening) (f : Feature) → feature-of (o .feature) ≡ given f → (x : S) → p .opening o ≡ given x →

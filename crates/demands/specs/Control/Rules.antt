@@ -146,7 +146,8 @@ another (Client d) c = not (eqb d c)
 
 -- of a machine that was opened so, its holder and its mode; a client's op code and parameter
 module _ (s : Setup) (h : Who) (m : Mode) (c o : ℕ) (p : List ℕ) where
-  -- "04 when 00 finds another holder, 07 finds running, 08 with 1 finds stopped, or 08 with 2 finds anything but running"
+  -- "04 when 00 finds another holder, 07 finds running, 08 with 1 finds stopped, or 08 with 2 finds anything but running": it is asked of 08 with 1 or
+  -- 2 alone, since any other is 03 before
   abbrev pub fails : Bool
   fails =
       cond (eqb o 0x00) (another h c)
