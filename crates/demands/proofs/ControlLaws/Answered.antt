@@ -1,19 +1,23 @@
 -- The service answers by its history.
 use Prim.Native.Nat.{ℕ, _≤_}
 use mathlib.Core.Path.{_≡_, refl, sym, ap, _∙_}
-use mathlib.Core.Bool.{cond}
+use mathlib.Core.Bool.{Bool, true, false, cond, not, _&&_, _||_}
 use mathlib.Core.List.{List, [], _∷_, _++_, append-assoc, append-nil}
 use native.Mathlib.Omega.{arith}
-use lib.Dec.{eqb, ltb}
+use lib.Dec.{eqb, leb, ltb}
+use lib.IntN.{ℤ, pos, negsuc}
 use lib.ListN.{length, getD, drop}
+use lib.Signed.{leZ, ltZ}
 use Rattle.record.specs.declared.feature.Feature.{Feature}
 use Rattle.record.specs.Answer.{Answer, refused, given}
 use Rattle.record.specs.Feature.{feature-of}
-use Rattle.record.proofs.Tests.{passed, failed, tested}
+use Rattle.record.proofs.Tests.{passed, failed, tested, leb-le, leb-lt, leb-true, ltb-false}
 use Rattle.service.specs.declared.control.Console.{Console}
+use Rattle.service.specs.declared.control.ranges.Ranges.{Ranges}
 use Rattle.service.specs.declared.control.machine.Setup.{Setup}
 use Rattle.service.specs.declared.control.judging.WriteResult.{WriteResult}
 use Rattle.service.specs.declared.control.judging.WriteResult.the-variants.{Success, NotSupported, InvalidParameter, OperationFailed, ControlNotPermitted}
+use Rattle.service.specs.Control.Ranges.{are-ranges}
 use Rattle.service.specs.Control.Machine.{usable, is, someone}
 use Rattle.service.specs.Control.Judging.{result-number, succeeds, result}
 use Rattle.service.specs.Control.Effects.{status-after, response-octets}
@@ -25,7 +29,7 @@ use Rattle.demands.specs.Control.Point.{Call, connect, disconnect, confi
 use Rattle.demands.specs.Control.Laws.{holder-by}
 use Rattle.demands.specs.Control.History.{mode-by, awaited-by, connected-by, indicating-by}
 use Rattle.demands.specs.Control.Rules as rule
-use Rattle.demands.specs.Control.Answered.{response-by, answer-by, OctetIn, OctetsIn, AnswersByHistory}
+use Rattle.demands.specs.Control.Answered.{response-by, answer-by, OctetIn, OctetsIn, reversed, refusal-by, refusal-in, AnswersByHistory}
 use Rattle.demands.proofs.ControlLaws.Rules.{status-so, result-so}
 use Rattle.demands.proofs.ControlLaws.Changes.{fixed-at-opening}
 use Rattle.demands.proofs.ControlLaws.Kept.{run-keeps}
@@ -118,15 +122,60 @@ opened-so o f k e h =
       | failed u ↦ absurd (let z : _≡_ {A = Answer Console} (refused 16) (given k) = rw u at g in let y : _≡_ {A = ℕ} 0 1 = cc in omega arith)
     ]
 
+-- ---- openings
+
+not-le : (a b : ℕ) → not (leb a b) ≡ ltb b a
+not-le a b = elim (tested (leb a b)) [
+  | passed e ↦ rw (e, ltb-false b a (leb-le a b e))
+  | failed e ↦ rw (e, leb-true (leb-lt a b e))
+]
+
+not-leZ : (a b : ℤ) → not (leZ a b) ≡ ltZ b a
+not-leZ (pos a) (pos b) = not-le a b
+not-leZ (pos a) (negsuc b) = refl
+not-leZ (negsuc a) (pos b) = refl
+not-leZ (negsuc a) (negsuc b) = not-le b a
+
+not-all : (a b c d e : Bool) → not (a && (b && (c && (d && e)))) ≡ (not a || (not b || (not c || (not d || not e))))
+not-all false b c d e = refl
+not-all true false c d e = refl
+not-all true true false d e = refl
+not-all true true true false e = refl
+not-all true true true true e = refl
+
+reversed-so : (r : Ranges) → not (are-ranges r) ≡ reversed r
+reversed-so r =
+    not-all (leb (r .speed .least) (r .speed .greatest)) (leZ (r .inclination .least) (r .inclination .greatest))
+    (leZ (r .resistance .least) (r .resistance .greatest)) (leZ (r .power .least) (r .power .greatest))
+    (leb (r .«heart_rate» .least) (r .«heart_rate» .greatest)) ∙
+    (λ i.
+    not-le (r .speed .least) (r .speed .greatest) i ||
+    (not-leZ (r .inclination .least) (r .inclination .greatest) i ||
+    (not-leZ (r .resistance .least) (r .resistance .greatest) i ||
+    (not-leZ (r .power .least) (r .power .greatest) i || not-le (r .«heart_rate» .least) (r .«heart_rate» .greatest) i))))
+
+opens-so : (o : Opening) → refusal-in (opened o) ≡ refusal-by o
+unfolding opened
+opens-so o = elim (tested (eqb (length (o .feature)) 8)) [
+  | failed e ↦ rw e
+  | passed e ↦ elim (tested (are-ranges (o .ranges))) [
+    | passed u ↦ rw (e, ← reversed-so (o .ranges), u)
+    | failed u ↦ rw (e, ← reversed-so (o .ranges), u)
+  ]
+]
+
 pub answers-by-history : AnswersByHistory service
-answers-by-history o f e k h qs q w = answer-so (setup-of f o) (run service k [] qs .0) (run service k [] qs .1) (record {
-  setup-so = run-keeps (λ x. x .machine .setup ≡ setup-of f o) (λ x q s. fixed-at-opening x q ∙ s) k [] qs (opened-so o f k e h);
-  holder-so = holder-by-history o k h qs;
-  mode-so = mode-by-history o k h qs;
-  awaited-so = awaited-by-history o k h qs;
-  connected-so = λ c. connected-by-history c o k h qs;
-  indicating-so = λ c. indicating-by-history c o k h qs;
-}) q w
+answers-by-history = record {
+  opens = opens-so;
+  answers = λ o f e k h qs q w. answer-so (setup-of f o) (run service k [] qs .0) (run service k [] qs .1) (record {
+    setup-so = run-keeps (λ x. x .machine .setup ≡ setup-of f o) (λ x q s. fixed-at-opening x q ∙ s) k [] qs (opened-so o f k e h);
+    holder-so = holder-by-history o k h qs;
+    mode-so = mode-by-history o k h qs;
+    awaited-so = awaited-by-history o k h qs;
+    connected-so = λ c. connected-by-history c o k h qs;
+    indicating-so = λ c. indicating-by-history c o k h qs;
+  }) q w;
+}
 
 -- ---- no second control point answers by its history otherwise
 
@@ -142,7 +191,7 @@ module _ {S R : Type 0} (p : Point S) (r : Point R) (a : AnswersByHistory p) (b 
   decides past [] w s = rw (append-nil past) s
   decides past (q ∷ qs) w s =
       let c : p .calling (run p x [] past .1) q .0 ≡ r .calling (run r y [] past .1) q .0 =
-      a o f e x g past q (w .0) ∙ ap (λ (l : List Event). answer-by (setup-of f o) l q) s ∙ sym (b o f e y h past q (w .0)) in
+      a .answers o f e x g past q (w .0) ∙ ap (λ (l : List Event). answer-by (setup-of f o) l q) s ∙ sym (b .answers o f e y h past q (w .0)) in
       rw (← append-assoc past (q ∷ []) qs)
       (decides (past ++ q ∷ []) qs (w .1) (run-more p x [] past q ∙ (λ i. event q (c i) ∷ s i) ∙ sym (run-more r y [] past q)))
 

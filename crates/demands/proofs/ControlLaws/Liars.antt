@@ -165,7 +165,7 @@ unfolding run connects indicates confirms writes op-code fit judged number has h
 pauses-again-refuted h =
     let e : _≡_ {A = ℕ} 0x01 0x04 =
     ap result-in
-    (h plain (closed .machine .setup .feature) no-targets closed opens-so (holds 0 ++ asks 0 (0x07 ∷ []) ++ asks 0 (0x08 ∷ 2 ∷ []))
+    (h .answers plain (closed .machine .setup .feature) no-targets closed opens-so (holds 0 ++ asks 0 (0x07 ∷ []) ++ asks 0 (0x08 ∷ 2 ∷ []))
     (write 0 (0x08 ∷ 2 ∷ [])) (lit≤ tt)) in
     omega arith
 
@@ -178,6 +178,6 @@ unfolding run connects indicates confirms writes op-code fit judged number has h
 busy-alone-refuted h =
     let e : _≡_ {A = ℕ} 0 20 =
     ap refusal-of
-    (h plain (closed .machine .setup .feature) no-targets closed opens-so (ready 0 ++ ready 1 ++ write 0 (0x00 ∷ []) ∷ [])
+    (h .answers plain (closed .machine .setup .feature) no-targets closed opens-so (ready 0 ++ ready 1 ++ write 0 (0x00 ∷ []) ∷ [])
     (write 1 (0x00 ∷ [])) (lit≤ tt)) in
     omega arith

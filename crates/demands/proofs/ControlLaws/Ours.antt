@@ -152,5 +152,5 @@ pub ours-answered : {o : Opening} {k : Console} {qs : List Call} {z : List Event
     x .0 ≡ answer-by (record { feature = f; ranges = o .ranges }) (z .0) q
 ours-answered {o} {k} {qs} {z} {q} d ran did f e w =
     ap (λ (x : Answer Sent × Console). x .0) (steps-alike did) ∙ ap (λ (z : List Event × Console). step (z .1) q .0) (runs-alike ran) ∙
-    answers-by-history o f e k (sym (opens-alike d)) qs q w ∙
+    answers-by-history .answers o f e k (sym (opens-alike d)) qs q w ∙
     ap (λ (z : List Event × Console). answer-by (record { feature = f; ranges = o .ranges }) (z .0) q) (sym (runs-alike ran))

@@ -1,13 +1,15 @@
 -- Every answer by what has happened alone: the control point a second time, by its history and by the rules of the op codes, and by no console.
 use Prim.Native.Nat.{ℕ, _≤_}
 use mathlib.Core.Path.{_≡_}
-use mathlib.Core.Bool.{cond, not}
+use mathlib.Core.Bool.{Bool, cond, not, _||_}
 use mathlib.Core.List.{List, [], _∷_}
 use lib.Dec.{eqb, ltb}
 use lib.ListN.{length, getD, drop}
+use lib.Signed.{ltZ}
 use Rattle.record.specs.declared.feature.Feature.{Feature}
 use Rattle.record.specs.Answer.{Answer, refused, given}
 use Rattle.record.specs.Feature.{feature-of}
+use Rattle.service.specs.declared.control.ranges.Ranges.{Ranges}
 use Rattle.service.specs.declared.control.machine.Setup.{Setup}
 use Rattle.service.specs.Control.Machine.{is, someone}
 use Rattle.service.specs.Control.Replies.{Sent, sent}
@@ -54,8 +56,25 @@ abbrev pub OctetsIn : List Call → Type 0
 OctetsIn [] = Unit {0}
 OctetsIn (q ∷ qs) = OctetIn q × OctetsIn qs
 
--- a control point whose next answer, after every sequence of calls from opening, is the one that this says
-abbrev pub AnswersByHistory : {S : Type 0} → Point S → Type 0
-AnswersByHistory {S} p = (o : Opening) (f : Feature) → feature-of (o .feature) ≡ given f → (x : S) → p .opening o ≡ given x →
-    (qs : List Call) (q : Call) → OctetIn q →
-    p .calling (run p x [] qs .1) q .0 ≡ answer-by (record { feature = f; ranges = o .ranges }) (run p x [] qs .0) q
+-- "16: some range has least above greatest"
+abbrev pub reversed : Ranges → Bool
+reversed r =
+    ltb (r .speed .greatest) (r .speed .least) ||
+    (ltZ (r .inclination .greatest) (r .inclination .least) ||
+    (ltZ (r .resistance .greatest) (r .resistance .least) ||
+    (ltZ (r .power .greatest) (r .power .least) || ltb (r .«heart_rate» .greatest) (r .«heart_rate» .least))))
+
+-- "opening a machine 22, 16"; "22: Feature value not 8 octets": the refusal of an opening, 0 where it is not refused
+abbrev pub refusal-by : Opening → ℕ
+refusal-by o = cond (not (eqb (length (o .feature)) 8)) 22 (cond (reversed (o .ranges)) 16 0)
+
+abbrev pub refusal-in : {A : Type 0} → Answer A → ℕ
+refusal-in (refused n) = n
+refusal-in (given x) = 0
+
+-- a control point that refuses these openings, and whose next answer, after every sequence of calls from any other, is the one that this says
+pub record AnswersByHistory {S : Type 0} (p : Point S) : Type 0 where
+  pub opens : (o : Opening) → refusal-in (p .opening o) ≡ refusal-by o
+  pub answers : (o : Opening) (f : Feature) → feature-of (o .feature) ≡ given f → (x : S) → p .opening o ≡ given x →
+      (qs : List Call) (q : Call) → OctetIn q →
+      p .calling (run p x [] qs .1) q .0 ≡ answer-by (record { feature = f; ranges = o .ranges }) (run p x [] qs .0) q
