@@ -6,7 +6,6 @@ use mathlib.Core.List.{List, [], _∷_}
 use native.Mathlib.Omega.{arith}
 use lib.Dec.{eqb}
 use lib.ListN.{length, getD, take}
-use mir.Facts.{sfits-lit}
 use Rattle.record.specs.declared.record.Record.{Record}
 use Rattle.record.specs.declared.split.Extent.{Extent}
 use Rattle.record.specs.Answer.{Answer, given, refused}
@@ -15,9 +14,10 @@ use Rattle.record.specs.Order.{exchanged}
 use Rattle.record.specs.Groups.{has, named, size, groups-of, listed}
 use Rattle.record.specs.Octets.{number, spelled}
 use Rattle.record.specs.Notification.{part-of, read-into, values}
-use Rattle.record.specs.Record.{all-fit, others, all-zero, formed, bits-within}
+use Rattle.record.specs.Record.{all-fit, others, all-zero, formed}
 use Rattle.record.specs.Split.{longest, cut, written, extent-of, split-wire, payload-known, split-of, lent-after, part-octets}
 use Rattle.record.specs.Samples as Samples
+use Rattle.record.proofs.SampleLaws.{trainer-formed, trainer-typed}
 use Rattle.service.specs.declared.collector.Collection.{Collection}
 use Rattle.service.specs.declared.collector.Told.the-variants.{Open}
 use Rattle.service.specs.Collector.{Said, waiting, handed, refused as refusing, empty, joins, collect}
@@ -84,20 +84,7 @@ unfolding says each split-wire extent-of layout tables cross-trainer has named s
 comes-back-exchanged = refl
 
 trainer-good : Good Samples.cross-trainer
-unfolding layout tables cross-trainer has named size groups-of listed all-fit others all-zero formed bits-within
-trainer-good = record {
-  typed = record {
-    numbers = refl;
-    inclination = sfits-lit tt;
-    ramp-angle = sfits-lit tt;
-    belt = sfits-lit tt;
-    power-output = sfits-lit tt;
-    resistance = sfits-lit tt;
-    power = sfits-lit tt;
-    average-power = sfits-lit tt;
-  };
-  formed = refl;
-}
+trainer-good = record { typed = trainer-typed; formed = trainer-formed }
 
 -- but what is written can: in the one notification, where document 01 has positive gain, F2 03, this one has negative gain, F3 03
 abbrev gain-octet : List ℕ → ℕ

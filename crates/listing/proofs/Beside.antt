@@ -9,18 +9,18 @@ use native.Mathlib.Omega.{arith}
 use lib.Dec.{eqb, ltb}
 use lib.IntN.{ℤ}
 use lib.ListN.{length, getD, List·getD-map}
-use mir.Facts.{sfits-lit}
 use Rattle.record.specs.declared.layout.Row.{Row}
 use Rattle.record.specs.declared.layout.Width.{Width}
 use Rattle.record.specs.declared.layout.Width.the-variants.{U8, U16, U24, S16}
 use Rattle.record.specs.declared.record.Record.{Record}
 use Rattle.record.specs.Layout.{layout, tables, treadmill, cross-trainer, step-climber, stair-climber, rower, indoor-bike}
-use Rattle.record.specs.Groups.{has, optional, named, groups-of, listed}
+use Rattle.record.specs.Groups.{has, optional}
 use Rattle.record.specs.Octets.{signed}
 use Rattle.record.specs.Order.{exchanged}
-use Rattle.record.specs.Record.{wire, well-formed, Typed, all-fit, others, all-zero, formed, bits-within}
+use Rattle.record.specs.Record.{wire, Typed}
 use Rattle.record.specs.Samples as Samples
 use Rattle.record.proofs.Records.{record-again}
+use Rattle.record.proofs.SampleLaws.{trainer-formed, trainer-typed}
 use Rattle.record.proofs.Sets.{has-zero, has-half}
 use Rattle.record.proofs.Tests.{all, all-at, and-l, and-r, leb-le, eqb-false}
 use Rattle.text.specs.Names.{name, names}
@@ -151,23 +151,6 @@ ours-lists n r t w =
     ap (λ (l : List ℕ). head-lines n (r .kind) (r .groups) (r .direction) ++ l) (lines-same r t (layout (r .kind)) (layout-fine (r .kind)))
 
 -- ---- a lister that prints the two gains under each other's names
-
-trainer-typed : Typed Samples.cross-trainer
-unfolding bits-within
-trainer-typed = record {
-  numbers = refl;
-  inclination = sfits-lit tt;
-  ramp-angle = sfits-lit tt;
-  belt = sfits-lit tt;
-  power-output = sfits-lit tt;
-  resistance = sfits-lit tt;
-  power = sfits-lit tt;
-  average-power = sfits-lit tt;
-}
-
-trainer-formed : well-formed Samples.cross-trainer ≡ true
-unfolding layout tables cross-trainer has named groups-of listed all-fit others all-zero formed
-trainer-formed = refl
 
 -- the last digit of its positive gain: 1010, and 1011 where the two are exchanged
 abbrev digit : List ℕ → ℕ

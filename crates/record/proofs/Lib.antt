@@ -18,6 +18,7 @@ pub mod Parts
 pub mod Partition
 pub mod Divided
 pub mod Again
+pub mod SampleLaws
 pub mod Once
 pub mod TablesOnce
 pub mod OctetsOnce
