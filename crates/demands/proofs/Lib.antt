@@ -17,3 +17,4 @@ pub mod FirstPart
 pub mod DemandsOnce
 pub mod ControlLaws
 pub mod AllCases
+pub mod Collecting

@@ -3,3 +3,4 @@ pub mod Demands
 pub mod Back
 pub mod Control
 pub mod Cases
+pub mod Collecting

@@ -1,0 +1,4 @@
+pub mod Seen
+pub mod Open
+pub mod Told
+pub mod Openings
