@@ -17,4 +17,5 @@ pub mod FirstPart
 pub mod DemandsOnce
 pub mod ControlLaws
 pub mod AllCases
+pub mod Splitting
 pub mod Collecting
