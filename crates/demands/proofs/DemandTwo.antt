@@ -9,7 +9,10 @@ use lib.Bits.{bitOr}
 use lib.ListN.{length, replicate}
 use Rattle.record.specs.declared.record.Record.{Record}
 use Rattle.record.specs.Groups.{flags-octets, set-length}
-use Rattle.record.specs.Split.{payload-known}
+use Rattle.record.specs.declared.split.Extent.{Extent}
+use Rattle.record.specs.Answer.{Answer, after}
+use Rattle.record.specs.Octets.{over}
+use Rattle.record.specs.Split.{payload-known, part-octets}
 use Rattle.record.proofs.Tables.{flags-most}
 use Rattle.record.proofs.Cuts.{Cuts, whole, more}
 use Rattle.record.proofs.Parts.{octets-length}
@@ -17,12 +20,12 @@ use Rattle.service.specs.declared.collector.Told.{Told}
 use Rattle.service.specs.declared.collector.Told.the-variants.{Open, Fixed}
 use Rattle.service.specs.declared.collector.Collection.{Collection}
 use Rattle.service.specs.Collector.{Said, waiting, handed, Stepped, zeros, collect, empty}
-use Rattle.demands.specs.Behaviour.{Splitter, buffer, parts-of, says, SplitsAsPromised, CollectsAsPromised, collector-of}
+use Rattle.demands.specs.Behaviour.{Splitter, says, SplitsAsPromised, CollectsAsPromised, collector-of}
 use Rattle.demands.specs.Demands.{Good, Short, Suits, Splits, Demand2}
 use Rattle.demands.proofs.Dropping.{Ready, ready-open, ready-fixed}
 use Rattle.demands.proofs.Taken.{Sent, sent, part, parts, with-numbers, holding}
 use Rattle.demands.proofs.Held.{Held, held-none, held-next, whole-first, whole-next, goes-on, hands, record-cuts}
-use Rattle.demands.proofs.Pieces.{splitter, collector, is-splitter, is-collector, answered, piece-is, low, high, pieces-are}
+use Rattle.demands.proofs.Pieces.{splitter, collector, is-splitter, is-collector, answered-in, low, high, pieces-are}
 use Rattle.demands.proofs.Emptied.{emptied}
 
 -- waiting some times, then the record
@@ -65,8 +68,9 @@ ready-if groups t (inr e) = rw e ready-fixed
 
 pub ours-splits : (payload : ℕ) → payload-known payload ≡ true → (r : Record) → Good r → Splits splitter payload r
 ours-splits payload p r w = record {
-  counts = λ i h. ap parts-of (answered r (w .formed) payload p i 512 h (omega arith));
-  written = λ i h. piece-is r (w .formed) payload p i h buffer (omega arith);
+  answers = λ i h out l. answered-in r (w .formed) payload p i (length out) h l;
+  leaves = λ i h out l.
+      ap (λ (a : Answer Extent). after a (over out (part-octets r payload i)) out) (answered-in r (w .formed) payload p i (length out) h l);
   short = subst (Short payload) (sym (pieces-are r w payload p))
       (parts-short (sent r w) payload (low r w payload p) (high r w payload p) (record-cuts (sent r w) payload (low r w payload p)));
 }

@@ -81,14 +81,19 @@ module _ (r : Record) (w : well-formed r ≡ true) (payload : ℕ) (p : payload-
       let m : payload ≤ 512 = most in
       rw (octets-length (r .kind) (set-at (r .kind) (r .groups) payload i) (r .direction) (wire r)) (omega arith)
 
-  -- lent 512 octets, it answers with the part's length and the number of parts
-  pub answered : (i lent : ℕ) → i < count → 512 ≤ lent → split-of r payload i lent ≡ given (record { length = length (part-octets r payload i); parts = count })
+  -- lent room for the part, it answers with the part's length and the number of parts
+  pub answered-in : (i lent : ℕ) → i < count → length (part-octets r payload i) ≤ lent →
+      split-of r payload i lent ≡ given (record { length = length (part-octets r payload i); parts = count })
   unfolding split-wire extent-of
-  answered i lent h l =
+  answered-in i lent h l =
       let k : known (r .kind) ≡ true = let f : Formed (r .kind) (r .groups) (r .direction) (wire r) = facts r w payload p in
       rw (le-leb 1 (r .kind) (f .kind-least), le-leb (r .kind) 6 (f .kind-greatest)) in
-      let s : leb (length (part-octets r payload i)) lent ≡ true = le-leb (length (part-octets r payload i)) lent (le-trans (part-short i h) l) in
+      let s : leb (length (part-octets r payload i)) lent ≡ true = le-leb (length (part-octets r payload i)) lent l in
       rw (k, p, w, lt-ltb i count h, s)
+
+  -- so it does where 512 octets are lent
+  pub answered : (i lent : ℕ) → i < count → 512 ≤ lent → split-of r payload i lent ≡ given (record { length = length (part-octets r payload i); parts = count })
+  answered i lent h l = answered-in i lent h (le-trans (part-short i h) l)
 
   pub piece-is : (i : ℕ) → i < count → (out : List ℕ) → 512 ≤ length out →
       take (length-of (split-of r payload i (length out))) (lent-after r payload i out) ≡ part-octets r payload i

@@ -1,18 +1,18 @@
 -- Wrong splitters that a collector of their own, or none, would find out: each refuted by demand 2, whatever the collector.
-use Prim.Native.Nat.{ℕ, zero, suc, _<_}
-use mathlib.Core.Path.{_≡_, refl, sym, ap, _∙_}
-use mathlib.Core.Bool.{Bool, true, false, cond}
+use Prim.Native.Nat.{ℕ, _<_, _≤_}
+use mathlib.Core.Path.{_≡_, refl, sym, ap, _∙_, subst}
+use mathlib.Core.Bool.{true, false, cond}
 use mathlib.Core.List.{List, [], _∷_}
 use native.Mathlib.Omega.{arith}
 use lib.Dec.{eqb}
-use lib.ListN.{length, getD, take}
+use lib.ListN.{length, getD, replicate}
 use Rattle.record.specs.declared.record.Record.{Record}
 use Rattle.record.specs.declared.split.Extent.{Extent}
 use Rattle.record.specs.Answer.{Answer, given, refused}
-use Rattle.record.specs.Layout.{layout, tables, cross-trainer, step-climber}
+use Rattle.record.specs.Layout.{layout, tables, cross-trainer, step-climber, indoor-bike}
 use Rattle.record.specs.Order.{exchanged}
 use Rattle.record.specs.Groups.{has, named, size, groups-of, listed}
-use Rattle.record.specs.Octets.{number, spelled}
+use Rattle.record.specs.Octets.{number, spelled, over}
 use Rattle.record.specs.Notification.{part-of, read-into, values}
 use Rattle.record.specs.Record.{all-fit, others, all-zero, formed}
 use Rattle.record.specs.Split.{longest, cut, written, extent-of, split-wire, payload-known, split-of, lent-after, part-octets}
@@ -21,17 +21,18 @@ use Rattle.record.proofs.SampleLaws.{trainer-formed, trainer-typed}
 use Rattle.service.specs.declared.collector.Collection.{Collection}
 use Rattle.service.specs.declared.collector.Told.the-variants.{Open}
 use Rattle.service.specs.Collector.{Said, waiting, handed, refused as refusing, empty, joins, collect}
-use Rattle.demands.specs.Behaviour.{Splitter, Collector, buffer, length-of, parts-of, each, piece, pieces, says}
+use Rattle.demands.specs.Behaviour.{Splitter, Collector, buffer, parts-of, each, pieces, says}
 use Rattle.demands.specs.Demands.{Good, count, Demand2}
-use Rattle.demands.proofs.Pieces.{splitter, collector, answered}
-use Rattle.demands.proofs.Samples.{climber, climber-1}
+use Rattle.demands.proofs.Pieces.{splitter, collector, part-short, answered}
+use Rattle.demands.proofs.DemandTwo.{ours-two}
+use Rattle.demands.proofs.Samples.{bike, bike-1, climber, climber-1}
 
 -- ---- the number of parts
 
 -- any splitter whose number differs at some well-formed record, payload and part
 pub not-miscounting : (s : Splitter) (payload : ℕ) → payload-known payload ≡ true → (r : Record) → Good r → (i : ℕ) → i < count r payload →
     (parts-of (s .answer r payload i buffer) ≡ count r payload → ⊥) → (c : Collector) → Demand2 s c → ⊥
-not-miscounting s payload p r w i h n c d = n (d .splits payload p r w .counts i h)
+not-miscounting s payload p r w i h n c d = n (ap parts-of (d .splits payload p r w .answers i h buffer (part-short r (w .formed) payload p i h)))
 
 -- one that writes as ours and claims a number of parts of its own
 abbrev with-parts : ℕ → Answer Extent → Answer Extent
@@ -90,12 +91,47 @@ trainer-good = record { typed = trainer-typed; formed = trainer-formed }
 abbrev gain-octet : List ℕ → ℕ
 gain-octet s = getD s 16 0
 
-gains-differ : (gain-octet (piece exchanging 512 Samples.cross-trainer 0) ≡ 0xF3) × (gain-octet (part-octets Samples.cross-trainer 512 0) ≡ 0xF2) × (0 < count Samples.cross-trainer 512)
+-- a record is split at 512 into one part of 512 octets at most
+in-one : 0 < count Samples.cross-trainer 512
+unfolding layout tables cross-trainer has named size groups-of listed longest cut
+in-one = omega arith
+
+gains-differ : (gain-octet (lent-after (exchanged Samples.cross-trainer) 512 0 buffer) ≡ 0xF3) × (gain-octet (over buffer (part-octets Samples.cross-trainer 512 0)) ≡ 0xF2)
 unfolding split-wire extent-of layout tables cross-trainer has named size groups-of listed all-fit others all-zero formed longest cut spelled written
-gains-differ = (refl, refl, omega arith)
+gains-differ = (refl, refl)
 
 pub not-exchanging : (c : Collector) → Demand2 exchanging c → ⊥
 not-exchanging c d =
-    let e : piece exchanging 512 Samples.cross-trainer 0 ≡ part-octets Samples.cross-trainer 512 0 =
-    d .splits 512 refl Samples.cross-trainer trainer-good .written 0 (gains-differ .2) in
+    let e : lent-after (exchanged Samples.cross-trainer) 512 0 buffer ≡ over buffer (part-octets Samples.cross-trainer 512 0) =
+    d .splits 512 refl Samples.cross-trainer trainer-good .leaves 0 in-one buffer (part-short Samples.cross-trainer trainer-formed 512 refl 0 in-one) in
     let z : _≡_ {A = ℕ} 0xF3 0xF2 = sym (gains-differ .0) ∙ ap gain-octet e ∙ gains-differ .1 in omega arith
+
+-- ---- the lent octets
+
+-- a bike at a speed has one part, 00 00 01 00
+one-part : (0 < count (bike 1) 20) × (part-octets (bike 1) 20 0 ≡ 0 ∷ 0 ∷ 1 ∷ 0 ∷ [])
+unfolding layout tables indoor-bike has named size groups-of listed longest cut spelled written
+one-part = (omega arith, refl)
+
+-- what any splitter must leave of it in what is lent
+must-leave : (s : Splitter) (c : Collector) → Demand2 s c → (out : List ℕ) → 4 ≤ length out → s .left (bike 1) 20 0 out ≡ over out (0 ∷ 0 ∷ 1 ∷ 0 ∷ [])
+must-leave s c d out l =
+    d .splits 20 refl (bike 1) (bike-1 .is-good) .leaves 0 (one-part .0) out (subst (λ (o : List ℕ). length o ≤ length out) (sym (one-part .1)) l)
+    ∙ ap (over out) (one-part .1)
+
+-- a splitter that writes nothing, whatever it answers
+pub not-silent : (s : Splitter) → ((r : Record) (payload i : ℕ) (out : List ℕ) → s .left r payload i out ≡ out) → (c : Collector) → Demand2 s c → ⊥
+not-silent s nothing c d =
+    let e : replicate 4 0 ≡ over (replicate 4 0) (0 ∷ 0 ∷ 1 ∷ 0 ∷ []) = sym (nothing (bike 1) 20 0 (replicate 4 0)) ∙ must-leave s c d (replicate 4 0) (omega arith) in
+    let z : _≡_ {A = ℕ} 0 1 = ap (λ (l : List ℕ). getD l 2 0) e in omega arith
+
+-- one that leaves 512 octets of its own, whatever is lent, and past the part's length zeros
+abbrev pub wiping : Splitter
+wiping = record { answer = λ r payload i out. split-of r payload i 512; left = λ r payload i out. lent-after r payload i buffer }
+
+pub not-wiping : (c : Collector) → Demand2 wiping c → ⊥
+not-wiping c d =
+    let lent : List ℕ = replicate 5 0xAA in
+    let e : lent-after (bike 1) 20 0 buffer ≡ over lent (0 ∷ 0 ∷ 1 ∷ 0 ∷ []) = must-leave wiping c d lent (omega arith) in
+    let f : lent-after (bike 1) 20 0 buffer ≡ over buffer (0 ∷ 0 ∷ 1 ∷ 0 ∷ []) = must-leave splitter collector ours-two buffer (omega arith) in
+    let z : _≡_ {A = ℕ} 0 0xAA = ap (λ (l : List ℕ). getD l 4 0) (sym f ∙ e) in omega arith

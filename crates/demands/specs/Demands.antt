@@ -6,12 +6,14 @@ use mathlib.Core.Bool.{Bool, true, false, cond}
 use mathlib.Core.List.{List, [], _∷_, _++_}
 use lib.ListN.{length, replicate}
 use Rattle.record.specs.declared.record.Record.{Record}
+use Rattle.record.specs.Answer.{given}
+use Rattle.record.specs.Octets.{over}
 use Rattle.record.specs.Record.{well-formed, Typed}
 use Rattle.record.specs.Split.{payload-known, sets-of, part-octets}
 use Rattle.service.specs.declared.collector.Told.{Told}
 use Rattle.service.specs.declared.collector.Told.the-variants.{Open, Fixed}
 use Rattle.service.specs.Collector.{Said, waiting, handed, refused}
-use Rattle.demands.specs.Behaviour.{Splitter, Collector, buffer, parts-of, piece, pieces, heard, says}
+use Rattle.demands.specs.Behaviour.{Splitter, Collector, pieces, heard, says}
 
 -- a record that is well formed; each of its fields is a value of its type, as every record that runs is
 pub record Good (r : Record) : Type 0 where
@@ -48,11 +50,14 @@ Suits groups told = (told ≡ Open) ⊎ (told ≡ Fixed groups)
 
 -- ---- demand 2
 
--- "The answer for part i, counted from 0, is its octets, its length and the number of parts": every answer to a part says how many there are, and a
--- part's octets are "a flags field, then the groups named by its bits, in ascending bit order, least octet first", by document 01's layouts.
+-- "The answer for part i, counted from 0, is its octets, its length and the number of parts; lent octets past the length stay.": every answer to a part
+-- says how many there are, whatever is lent that has room for it; and the octets are "a flags field, then the groups named by its bits, in
+-- ascending bit order, least octet first", by document 01's layouts.
 pub record Splits (s : Splitter) (payload : ℕ) (r : Record) : Type 0 where
-  pub counts : (i : ℕ) → i < count r payload → parts-of (s .answer r payload i buffer) ≡ count r payload
-  pub written : (i : ℕ) → i < count r payload → piece s payload r i ≡ part-octets r payload i
+  pub answers : (i : ℕ) → i < count r payload → (out : List ℕ) → length (part-octets r payload i) ≤ length out →
+      s .answer r payload i out ≡ given (record { length = length (part-octets r payload i); parts = count r payload })
+  pub leaves : (i : ℕ) → i < count r payload → (out : List ℕ) → length (part-octets r payload i) ≤ length out →
+      s .left r payload i out ≡ over out (part-octets r payload i)
   pub short : Short payload (pieces s payload r)
 
 -- "Records .. are those of Fitness Machine Service 1.0 with document 01's layouts and order. Any well-formed record, split at any payload from 20 to
