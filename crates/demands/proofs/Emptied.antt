@@ -1,30 +1,34 @@
--- Ours holds nothing after a record and after a refusal 30 to 34: its state is then the one that it was opened with.
+-- What a step of ours leaves: after a record and after a refusal 30 to 34 it holds nothing, and its state is the one that it was opened with; after a refusal
+-- 10 to 22 its state is what it was.
 use Prim.Native.Nat.{ℕ, _<_, _≤_}
 use mathlib.Core.Path.{_≡_, refl, sym, ap, ap₂, _∙_}
-use mathlib.Core.Bool.{Bool, true, false, cond}
+use mathlib.Core.Bool.{Bool, true, false, cond, not}
 use mathlib.Core.List.{List}
 use native.Mathlib.Omega.{arith}
 use lib.Bits.{bitOr}
-use lib.Dec.{leb}
+use lib.Dec.{eqb, leb}
 use Rattle.record.specs.declared.notification.Part.{Part}
 use Rattle.record.specs.declared.record.Record.{Record}
 use Rattle.record.specs.Answer.{Answer, given}
 use Rattle.record.specs.Answer as Answer
 use Rattle.record.specs.Notification.{part-of, joined}
 use Rattle.record.specs.Record.{of-wire}
-use Rattle.record.proofs.Tests.{leb-false}
+use Rattle.record.proofs.Tests.{leb-true, leb-false}
 use Rattle.service.specs.declared.collector.Told.{Told}
 use Rattle.service.specs.declared.collector.Collection.{Collection}
 use Rattle.service.specs.Collector.{Said, waiting, handed, refused, Stepped, zeros, collection, empty, drops, outside, incomplete, after-refusal, refuses, joins, takes, answers-to, collect}
 use Rattle.demands.specs.Demands.{Reached, at-first, then, Empty, opened, after-record, after-refusal as refusing}
 use Rattle.demands.proofs.Pieces.{collector}
 
--- what a step leaves: the kind and what was told stay; after a record nothing is held, and after a refusal 30 to 34 neither
+-- what a step leaves: the kind and what was told stay; after a record nothing is held, and after a refusal 30 to 34 neither; a refusal 10 to 22 leaves all
+-- as it was, and each says whether any were held before it
 record Leaves (c : Collection) (x : Stepped) : Type 0 where
   same-kind : x .next .kind ≡ c .kind
   same-told : x .next .told ≡ c .told
   after-handed : (r : Record) (d : Bool) → x .said ≡ handed r d → x .next ≡ empty (c .kind) (c .told)
   after-refused : (n : ℕ) (d : Bool) → 30 ≤ n → x .said ≡ refused n d → x .next ≡ empty (c .kind) (c .told)
+  stays : (n : ℕ) (d : Bool) → n ≤ 22 → x .said ≡ refused n d → x .next ≡ c
+  flagged : (n : ℕ) (d : Bool) → x .said ≡ refused n d → d ≡ not (eqb (c .held) 0)
 
 apart : {A : Type 0} {a b : Said} (f : Said → ℕ) → a ≡ b → (f a ≡ f b → ⊥) → A
 apart f e n = absurd (n (ap f e))
@@ -40,6 +44,11 @@ number-in (waiting d) = 0
 number-in (handed r d) = 0
 number-in (refused n d) = n
 
+abbrev flag-in : Said → Bool
+flag-in (waiting d) = d
+flag-in (handed r d) = d
+flag-in (refused n d) = d
+
 module _ (c : Collection) where
   leaves-refusal : (n : ℕ) → Leaves c (refuses c n)
   leaves-refusal n = record {
@@ -49,6 +58,10 @@ module _ (c : Collection) where
     after-refused = λ m d h e.
         let i : n ≡ m = ap number-in e in
         ap (λ (b : Bool). cond b c (empty (c .kind) (c .told))) (leb-false {m = n} {n = 22} (omega arith));
+    stays = λ m d h e.
+        let i : n ≡ m = ap number-in e in
+        ap (λ (b : Bool). cond b c (empty (c .kind) (c .told))) (leb-true {m = n} {n = 22} (omega arith));
+    flagged = λ m d e. sym (ap flag-in e);
   }
     where
       kind-after : (b : Bool) → cond b c (empty (c .kind) (c .told)) .kind ≡ c .kind
@@ -77,12 +90,16 @@ module _ (c : Collection) where
     same-told = refl;
     after-handed = λ r d e. refl;
     after-refused = λ n d h e. refl;
+    stays = λ n d h e. apart tag e (λ z. omega arith);
+    flagged = λ n d e. apart tag e (λ z. omega arith);
   }
   leaves-joined p s dropped false lacking = record {
     same-kind = refl;
     same-told = refl;
     after-handed = λ r d e. apart tag e (λ z. omega arith);
     after-refused = λ n d h e. apart tag e (λ z. omega arith);
+    stays = λ n d h e. apart tag e (λ z. omega arith);
+    flagged = λ n d e. apart tag e (λ z. omega arith);
   }
 
   leaves-part : (p : Part) (s : List ℕ) (b dropped : Bool) → Leaves c (cond b (refuses c 33) (joins c p s dropped))
@@ -97,6 +114,14 @@ module _ (c : Collection) where
   leaves : (s : List ℕ) → Leaves c (collect c s)
   unfolding collect
   leaves s = leaves-answer (part-of (c .kind) s) s
+
+-- "10 to 22 leave the state unchanged."
+pub unchanged : (c : Collection) (s : List ℕ) (n : ℕ) (d : Bool) → n ≤ 22 → collect c s .said ≡ refused n d → collect c s .next ≡ c
+unchanged c s = leaves c s .stays
+
+-- "a refusal says yes exactly when any were held before it"
+pub says-held : (c : Collection) (s : List ℕ) (n : ℕ) (d : Bool) → collect c s .said ≡ refused n d → d ≡ not (eqb (c .held) 0)
+says-held c s = leaves c s .flagged
 
 module _ (kind : ℕ) (told : Told) where
   -- whatever has come, kind and what was told are those of the opening

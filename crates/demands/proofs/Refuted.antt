@@ -16,7 +16,6 @@ use Rattle.record.specs.Answer as Answer
 use Rattle.record.specs.Notification.{part-of, read-into, values}
 use Rattle.record.specs.Record.{all-fit, others, all-zero, formed}
 use Rattle.record.specs.Split.{longest, cut, written, extent-of, split-of, lent-after, split-wire}
-use Rattle.service.specs.declared.collector.Told.{Told}
 use Rattle.service.specs.declared.collector.Told.the-variants.{Open, Fixed}
 use Rattle.service.specs.Collector.{Said, waiting, handed, refused, empty, joins, collect}
 use Rattle.demands.specs.Behaviour.{Splitter, Collector, buffer, length-of, parts-of, each, piece, pieces, says, heard}
@@ -48,12 +47,6 @@ said-first : (n : ℕ) (x r : Record) (d : Bool) (rest : List Said) → handed x
 said-first zero x r d rest e = ((cc), (cc))
 said-first (suc n) x r d rest e = absurd (let z : _≡_ {A = ℕ} 0 1 = cc in omega arith)
 
--- two records are not said in the same words
-said-once : (m n : ℕ) (x r : Record) → answers m x ≡ answers n r → x ≡ r
-said-once m n x r e =
-    let l : handed x false ≡ handed r false =
-    last-said (replicate m (waiting false)) (replicate n (waiting false)) (handed x false) (handed r false) e in cc
-
 bikes-differ : bike 1 ≡ bike 2 → ⊥
 bikes-differ e = let z : _≡_ {A = ℕ} 1 2 = ap (λ (r : Record). r .speed) e in omega arith
 
@@ -61,25 +54,20 @@ bikes-differ e = let z : _≡_ {A = ℕ} 1 2 = ap (λ (r : Record). r .speed) e 
 from-opening : (s : Splitter) (c : Collector) → Demand2 s c → (r : Record) → Good r → (n : ℕ) × (says c (c .opened (r .kind) Open) (pieces s 20 r) ≡ answers n r)
 from-opening s c h r w = h .comes-back 20 refl r w Open (inl refl) (c .opened (r .kind) Open) opened
 
--- a collector with a constant record, whatever the splitter
-module _ (S : Type 0) (opened : ℕ → Told → S) (x : Record) (d : Bool) where
-  abbrev pub constant : Collector
-  constant = record { State = S; opened = opened; step = λ c s. (handed x d, c) }
-
-  constantly : (state : S) (l : List (List ℕ)) (n : ℕ) (r : Record) → says constant state l ≡ answers n r → x ≡ r
+-- a collector that hands out one record whatever it hears, in any state, whatever the splitter
+module _ (c : Collector) (x : Record) (constant : (state : c .State) (s : List ℕ) → (d : Bool) × (c .step state s .0 ≡ handed x d)) where
+  constantly : (state : c .State) (l : List (List ℕ)) (n : ℕ) (r : Record) → says c state l ≡ answers n r → x ≡ r
   unfolding says
   constantly state [] n r e = absurd (said-some n r e)
-  constantly state (s ∷ ss) n r e = said-first n x r d (says constant state ss) e .0
+  constantly state (s ∷ ss) n r e =
+      let rest : List Said = says c (c .step state s .1) ss in
+      said-first n x r (constant state s .0) rest (ap (λ (a : Said). a ∷ rest) (sym (constant state s .1)) ∙ e) .0
 
-  pub not-constant : (s : Splitter) → Demand2 s constant → ⊥
+  pub not-constant : (s : Splitter) → Demand2 s c → ⊥
   not-constant s h =
-      let a : (n : ℕ) × (says constant (opened 6 Open) (pieces s 20 (bike 1)) ≡ answers n (bike 1)) = from-opening s constant h (bike 1) (bike-1 .is-good) in
-      let b : (n : ℕ) × (says constant (opened 6 Open) (pieces s 20 (bike 2)) ≡ answers n (bike 2)) = from-opening s constant h (bike 2) (bike-2 .is-good) in
-      bikes-differ (sym (constantly (opened 6 Open) (pieces s 20 (bike 1)) (a .0) (bike 1) (a .1)) ∙ constantly (opened 6 Open) (pieces s 20 (bike 2)) (b .0) (bike 2) (b .1))
-
--- a splitter that writes nothing and answers as ours, whatever the collector
-abbrev pub silent : Splitter
-silent = record { answer = λ r payload i out. split-of r payload i (length out); left = λ r payload i out. out }
+      let a : (n : ℕ) × (says c (c .opened 6 Open) (pieces s 20 (bike 1)) ≡ answers n (bike 1)) = from-opening s c h (bike 1) (bike-1 .is-good) in
+      let b : (n : ℕ) × (says c (c .opened 6 Open) (pieces s 20 (bike 2)) ≡ answers n (bike 2)) = from-opening s c h (bike 2) (bike-2 .is-good) in
+      bikes-differ (sym (constantly (c .opened 6 Open) (pieces s 20 (bike 1)) (a .0) (bike 1) (a .1)) ∙ constantly (c .opened 6 Open) (pieces s 20 (bike 2)) (b .0) (bike 2) (b .1))
 
 abbrev four-of-one : Answer Extent
 four-of-one = given (record { length = 4; parts = 1 })
@@ -87,19 +75,6 @@ four-of-one = given (record { length = 4; parts = 1 })
 bike-answers : (split-of (bike 1) 20 0 512 ≡ four-of-one) × (split-of (bike 2) 20 0 512 ≡ four-of-one)
 unfolding split-wire extent-of layout tables indoor-bike has named size groups-of listed all-fit others all-zero formed longest cut spelled written
 bike-answers = (refl, refl)
-
-silent-piece : (answer : ℕ → Answer Extent) → answer 0 ≡ four-of-one → each 0 (parts-of (answer 0)) (λ i. take (length-of (answer i)) buffer) ≡ take 4 buffer ∷ []
-unfolding each
-silent-piece answer e =
-    ap (λ (a : Answer Extent). each 0 (parts-of a) (λ i. take (length-of (answer i)) buffer)) e ∙ ap (λ (a : Answer Extent). take (length-of a) buffer ∷ []) e
-
-pub not-silent : (c : Collector) → Demand2 silent c → ⊥
-not-silent c h =
-    let a : (n : ℕ) × (says c (c .opened 6 Open) (pieces silent 20 (bike 1)) ≡ answers n (bike 1)) = from-opening silent c h (bike 1) (bike-1 .is-good) in
-    let b : (n : ℕ) × (says c (c .opened 6 Open) (pieces silent 20 (bike 2)) ≡ answers n (bike 2)) = from-opening silent c h (bike 2) (bike-2 .is-good) in
-    let e : pieces silent 20 (bike 1) ≡ pieces silent 20 (bike 2) =
-    silent-piece (λ i. split-of (bike 1) 20 i 512) (bike-answers .0) ∙ sym (silent-piece (λ i. split-of (bike 2) 20 i 512) (bike-answers .1)) in
-    bikes-differ (said-once (a .0) (b .0) (bike 1) (bike 2) (sym (a .1) ∙ ap (says c (c .opened 6 Open)) e ∙ b .1))
 
 -- a splitter that writes as ours and invents the number of parts, f k for k, with our collector
 abbrev claimed : (ℕ → ℕ) → Answer Extent → Answer Extent
@@ -194,23 +169,13 @@ not-refusing c refuses h =
     let x : (n : ℕ) × (d : Bool) × (c .step (c .opened 6 (Fixed 0)) (bike-octets 1) .0 ≡ refused n d) = refuses (c .opened 6 (Fixed 0)) (bike-octets 1) in
     not-handed (bike 1) (x .0) (x .1) (subst (Hands (bike 1)) (x .2) (bike-twice c h .0))
 
--- one that is as any other and only waits after its first record
-abbrev is-handed : Said → Bool
-is-handed (waiting d) = false
-is-handed (handed r d) = true
-is-handed (refused n d) = false
-
-module _ (c : Collector) where
-  abbrev muted-step : Bool → c .State → List ℕ → Said × (c .State × Bool)
-  muted-step true state s = (waiting false, (state, true))
-  muted-step false state s = (c .step state s .0, (c .step state s .1, is-handed (c .step state s .0)))
-
-  abbrev pub muted : Collector
-  muted = record { State = c .State × Bool; opened = λ kind told. (c .opened kind told, false); step = λ state s. muted-step (state .1) (state .0) s }
-
-  pub not-muted : Demand3 splitter muted → ⊥
-  not-muted d =
-      let first : Said × c .State = c .step (c .opened 6 (Fixed 0)) (bike-octets 1) in
-      let p : Hands (bike 1) (first .0) × Hands (bike 1) (muted-step (is-handed (first .0)) (first .1) (bike-octets 1) .0) = bike-twice muted d in
-      not-waited (bike 1) false
-      (subst (λ (said : Said). Hands (bike 1) (muted-step (is-handed said) (first .1) (bike-octets 1) .0)) (p .0 .1) (p .1))
+-- one that only waits after its first record: at the notification behind one that it answered with a record
+pub not-muted : (c : Collector) →
+    ((state : c .State) (s : List ℕ) (r : Record) (d : Bool) → c .step state s .0 ≡ handed r d → (t : List ℕ) →
+    (e : Bool) × (c .step (c .step state s .1) t .0 ≡ waiting e)) →
+    Demand3 splitter c → ⊥
+not-muted c mutes h =
+    let first : c .State = c .opened 6 (Fixed 0) in
+    let p : Hands (bike 1) (c .step first (bike-octets 1) .0) × Hands (bike 1) (c .step (c .step first (bike-octets 1) .1) (bike-octets 1) .0) = bike-twice c h in
+    let w : (e : Bool) × (c .step (c .step first (bike-octets 1) .1) (bike-octets 1) .0 ≡ waiting e) = mutes first (bike-octets 1) (bike 1) (p .0 .0) (p .0 .1) (bike-octets 1) in
+    not-waited (bike 1) (w .0) (subst (Hands (bike 1)) (w .1) (p .1))
