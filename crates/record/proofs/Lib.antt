@@ -19,6 +19,7 @@ pub mod Partition
 pub mod Divided
 pub mod Again
 pub mod SampleLaws
+pub mod Tolerance
 pub mod Once
 pub mod TablesOnce
 pub mod OctetsOnce

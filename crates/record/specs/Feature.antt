@@ -1,7 +1,7 @@
 -- "Feature value, 8 octets, two u32": features, then target settings.
 use Prim.Native.Nat.{ℕ, _%_, _^_}
 use mathlib.Core.Path.{_≡_, refl}
-use mathlib.Core.Bool.{Bool, cond, _&&_}
+use mathlib.Core.Bool.{Bool, true, false, cond, _&&_}
 use mathlib.Core.List.{List, [], _∷_, _++_, map}
 use lib.Dec.{eqb, leb}
 use lib.ListN.{length, drop}
@@ -109,3 +109,14 @@ meant (answers.Refused x) = refused (number-of x)
 -- both sentences name their bits in ascending order, none left out: 0 to 16
 pub in-order : (feature-bits ≡ 0 ∷ 1 ∷ 2 ∷ 3 ∷ 4 ∷ 5 ∷ 6 ∷ 7 ∷ 8 ∷ 9 ∷ 10 ∷ 11 ∷ 12 ∷ 13 ∷ 14 ∷ 15 ∷ 16 ∷ []) × (target-bits ≡ feature-bits)
 in-order = (refl, refl)
+
+-- "Feature value, 8 octets, two u32", least octet first; "Other bits are written 0 and ignored when read."; "22: Feature value not 8 octets"
+pub read-and-written :
+    (feature-of (0x01 ∷ 0x02 ∷ 0x00 ∷ 0x00 ∷ 0x04 ∷ 0x00 ∷ 0x01 ∷ 0x00 ∷ []) ≡ given (record { features = 0x201; targets = 0x10004 })) ×
+    (feature-of (0xFF ∷ 0xFF ∷ 0xFF ∷ 0xFF ∷ 0xFF ∷ 0xFF ∷ 0xFF ∷ 0xFF ∷ []) ≡ given (record { features = 0x1FFFF; targets = 0x1FFFF })) ×
+    (feature-of (0 ∷ 0 ∷ 0 ∷ 0 ∷ 0 ∷ 0 ∷ 0 ∷ []) ≡ refused 22) × (feature-of (0 ∷ 0 ∷ 0 ∷ 0 ∷ 0 ∷ 0 ∷ 0 ∷ 0 ∷ 0 ∷ []) ≡ refused 22) ×
+    (feature-octets (record { features = 0x201; targets = 0x10004 }) ≡ 0x01 ∷ 0x02 ∷ 0x00 ∷ 0x00 ∷ 0x04 ∷ 0x00 ∷ 0x01 ∷ 0x00 ∷ []) ×
+    (feature-octets (record { features = 0xFFFFFFFF; targets = 0x20000 }) ≡ 0xFF ∷ 0xFF ∷ 0x01 ∷ 0x00 ∷ 0x00 ∷ 0x00 ∷ 0x00 ∷ 0x00 ∷ []) ×
+    (has-named 0x10000 16 ≡ true) × (has-named 0x20000 17 ≡ false) × (has-named 0x1FFFE 0 ≡ false)
+unfolding number spelled has
+read-and-written = (refl, refl, refl, refl, refl, refl, refl, refl, refl)
