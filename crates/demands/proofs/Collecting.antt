@@ -1,7 +1,7 @@
 -- The worked cases of collecting hold, by computation.
 use mathlib.Core.Path.{_≡_, refl}
-use mathlib.Core.List.{List, map, _++_, [], _∷_}
-use Rattle.record.specs.Layout.{layout, tables, cross-trainer, indoor-bike, treadmill, step-climber, rower}
+use mathlib.Core.List.{List, map}
+use Rattle.record.specs.Layout.{layout, tables, cross-trainer, indoor-bike, treadmill, step-climber}
 use Rattle.record.specs.Groups.{has, named, size, groups-of, listed}
 use Rattle.record.specs.Octets.{number}
 use Rattle.record.specs.Notification.{part-of, read-into, values}

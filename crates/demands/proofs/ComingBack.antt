@@ -8,7 +8,7 @@ use native.Mathlib.Omega.{arith}
 use lib.ListN.{length, replicate}
 use Rattle.record.specs.declared.record.Record.{Record}
 use Rattle.record.specs.Groups.{flags-octets}
-use Rattle.record.specs.Split.{payload-known, fits, run, cut, sets-of, part-octets}
+use Rattle.record.specs.Split.{payload-known, fits, run, cut, part-octets}
 use Rattle.record.proofs.Again.{record-parts}
 use Rattle.service.specs.declared.collector.Told.{Told}
 use Rattle.service.specs.declared.collector.Collection.{Collection}

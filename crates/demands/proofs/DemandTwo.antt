@@ -17,9 +17,8 @@ use Rattle.record.proofs.Tables.{flags-most}
 use Rattle.record.proofs.Cuts.{Cuts, whole, more}
 use Rattle.record.proofs.Parts.{octets-length}
 use Rattle.service.specs.declared.collector.Told.{Told}
-use Rattle.service.specs.declared.collector.Told.the-variants.{Open, Fixed}
 use Rattle.service.specs.declared.collector.Collection.{Collection}
-use Rattle.service.specs.Collector.{Said, waiting, handed, Stepped, zeros, collect, empty}
+use Rattle.service.specs.Collector.{Said, waiting, handed, Stepped, zeros, collect}
 use Rattle.demands.specs.Behaviour.{Splitter, says, SplitsAsPromised, CollectsAsPromised, collector-of}
 use Rattle.demands.specs.Demands.{Good, Short, Suits, Splits, Demand2}
 use Rattle.demands.proofs.Dropping.{Ready, ready-open, ready-fixed}

@@ -1,6 +1,6 @@
 -- What a step of ours leaves: after a record and after a refusal 30 to 34 it holds nothing, and its state is the one that it was opened with; after a refusal
 -- 10 to 22 its state is what it was.
-use Prim.Native.Nat.{ℕ, _<_, _≤_}
+use Prim.Native.Nat.{ℕ, _≤_}
 use mathlib.Core.Path.{_≡_, refl, sym, ap, ap₂, _∙_}
 use mathlib.Core.Bool.{Bool, true, false, cond, not}
 use mathlib.Core.List.{List}
@@ -16,7 +16,7 @@ use Rattle.record.specs.Record.{of-wire}
 use Rattle.record.proofs.Tests.{leb-true, leb-false}
 use Rattle.service.specs.declared.collector.Told.{Told}
 use Rattle.service.specs.declared.collector.Collection.{Collection}
-use Rattle.service.specs.Collector.{Said, waiting, handed, refused, Stepped, zeros, collection, empty, drops, outside, incomplete, after-refusal, refuses, joins, takes, answers-to, collect}
+use Rattle.service.specs.Collector.{Said, waiting, handed, refused, Stepped, zeros, collection, empty, drops, outside, incomplete, refuses, joins, answers-to, collect}
 use Rattle.demands.specs.Demands.{Reached, at-first, then, Empty, opened, after-record, after-refusal as refusing}
 use Rattle.demands.proofs.Pieces.{collector}
 

@@ -1,11 +1,11 @@
 -- A record and a payload, judged by the splitter: what it refuses does not come back, and what it splits is well formed and in range.
-use Prim.Native.Nat.{ℕ, _<_}
+use Prim.Native.Nat.{ℕ}
 use mathlib.Core.Path.{_≡_, sym, ap, _∙_}
-use mathlib.Core.Bool.{true, false}
+use mathlib.Core.Bool.{true}
 use native.Mathlib.Omega.{arith}
 use Rattle.record.specs.declared.record.Record.{Record}
 use Rattle.record.specs.declared.split.Extent.{Extent}
-use Rattle.record.specs.Answer.{Answer, refused, given}
+use Rattle.record.specs.Answer.{refused, given}
 use Rattle.record.specs.Groups.{known}
 use Rattle.record.specs.Record.{well-formed}
 use Rattle.record.specs.Split.{payload-known, split-wire, split-of}

@@ -8,6 +8,7 @@ pub mod Counted
 pub mod Streams
 pub mod DemandThree
 pub mod Samples
+pub mod HandedFormed
 pub mod Refuted
 pub mod Splitters
 pub mod Mixed

@@ -19,11 +19,11 @@ use Rattle.record.proofs.Records.{numbers-again, formed-in-types}
 use Rattle.service.specs.Collector.{zeros}
 use Rattle.demands.specs.Behaviour.{pieces}
 use Rattle.demands.specs.Demands.{Good}
-use Rattle.demands.proofs.Taken.{Sent, sent, part, parts}
+use Rattle.demands.proofs.Taken.{sent, parts}
 use Rattle.demands.proofs.Pieces.{splitter, mapped, pieces-are}
 
 -- a record of numbers that are well formed
-good : (k g d : ℕ) (v : List ℕ) → length v ≡ 31 → formed k g d v ≡ true → Good (of-wire k g d v)
+pub good : (k g d : ℕ) (v : List ℕ) → length v ≡ 31 → formed k g d v ≡ true → Good (of-wire k g d v)
 good k g d v l h =
     let t : in-types v ≡ true = formed-in-types k g d v h l in
     let e : wire (of-wire k g d v) ≡ v = numbers-again k g d v l t in

@@ -26,7 +26,7 @@ use Rattle.record.proofs.Tests.{all, all-at, and-l, and-r, leb-le, eqb-false}
 use Rattle.text.specs.Names.{name, names}
 use Rattle.text.specs.Text.{ascii, decimal, integer, line}
 use Rattle.listing.specs.Lines.{value, field-line, field-lines, head-lines, record-lines}
-use Rattle.listing.specs.Beside.{entries, no-entry, entry-line, present, lines-beside, Lists}
+use Rattle.listing.specs.Beside.{entries, no-entry, present, lines-beside, Lists}
 
 -- ---- which fields are signed
 

@@ -1,7 +1,7 @@
 -- Document 01's sentence on splitting, `Divided`, is met by the sets of a record's parts, and by no others.
 use Prim.Native.Nat.{ℕ, zero, suc, _+_, _*_, _-_, _/_, _%_, _^_, _<_, _≤_}
 use mathlib.Core.Path.{_≡_, refl, sym, ap, _∙_, subst}
-use mathlib.Core.List.{List, [], _∷_}
+use mathlib.Core.List.{List, _∷_}
 use native.Mathlib.Omega.{arith}
 use native.Mathlib.Nat.{le-antisymm, mod-le, mod-eq-of-lt}
 use lib.Dec.{leb}

@@ -20,6 +20,8 @@ pub mod Divided
 pub mod Again
 pub mod SampleLaws
 pub mod Tolerance
+pub mod ReadRows
+pub mod Clean
 pub mod Once
 pub mod TablesOnce
 pub mod OctetsOnce

@@ -3,22 +3,21 @@ use Prim.Native.Nat.{ℕ, zero, suc, _+_, _*_, _-_, _/_, _%_, _≤_}
 use mathlib.Core.Path.{_≡_, refl, sym, ap, ap₂, _∙_}
 use mathlib.Core.Bool.{Bool, true, false, cond, not, _&&_}
 use mathlib.Core.List.{List, [], _∷_, _++_}
-use native.Mathlib.Nat.{le-trans}
 use native.Mathlib.Omega.{arith}
-use lib.Bits.{bitAnd, and-comm}
+use lib.Bits.{and-comm}
 use lib.Dec.{eqb, leb}
 use lib.ListN.{length, drop, set, length-append, length-drop}
 use lib.Seq.{drop-append-le}
 use Rattle.record.specs.declared.layout.Row.{Row}
 use Rattle.record.specs.declared.notification.Part.{Part}
 use Rattle.record.specs.Layout.{layout, octets-of}
-use Rattle.record.specs.Groups.{has, named, size, known, listed, flags-octets, set-length, turned}
+use Rattle.record.specs.Groups.{has, named, size, known, listed, flags-octets, set-length, optional, turned}
 use Rattle.record.specs.Octets.{number}
 use Rattle.record.specs.Answer.{Answer, given, provided}
-use Rattle.record.specs.Notification.{flags-of, names, part-of, read-into, values, joined}
-use Rattle.record.proofs.Once.{never}
+use Rattle.record.specs.Notification.{flags-of, names, heading, part-of, read-into, values, joined}
+use Rattle.record.proofs.Once.{value-same, never}
 use Rattle.record.proofs.Sets.{Sub, and-of-sub, has-and, has-zero, has-half}
-use Rattle.record.proofs.Tests.{leb-le, leb-true, eqb-false, eqb-true, eqb-eq, eqb-ne, and-l, and-r, Tested, passed, failed, tested}
+use Rattle.record.proofs.Tests.{leb-le, leb-true, eqb-false, eqb-eq, eqb-ne, and-r, Tested, passed, failed, tested}
 
 -- ---- octets after the last named group
 
@@ -106,3 +105,16 @@ reserved-ignored kind flags other agree =
           let f : has (turned x) i ≡ has (turned y) i = turned-bit x i ∙ ap (λ (b : Bool). cond (eqb i 0) (not b) b) (same i l) ∙ sym (turned-bit y i) in
           has-and (turned y) all i ∙ ap (λ (b : Bool). b && has all i) (sym f) ∙ g;
     }
+
+-- ---- what is read is what the flags say
+pub part-is : (kind : ℕ) (s : List ℕ) (p : Part) → part-of kind s ≡ given p →
+    p ≡ record { groups = optional (names kind (flags-of kind s)); last = eqb (flags-of kind s % 2) 0; direction = heading kind (flags-of kind s) }
+unfolding part-of
+part-is kind s p e =
+    let f : ℕ = flags-octets kind in
+    let a : (known kind ≡ true) × _ = past (known kind) 11 _ p e in
+    let b : (leb (length s) 512 ≡ true) × _ = past (leb (length s) 512) 30 _ p (a .1) in
+    let c : (leb f (length s) ≡ true) × _ = past (leb f (length s)) 31 _ p (b .1) in
+    let d : (leb (f + set-length kind (names kind (flags-of kind s))) (length s) ≡ true) × _ =
+    past (leb (f + set-length kind (names kind (flags-of kind s))) (length s)) 32 _ p (c .1) in
+    sym (value-same _ p (d .1))

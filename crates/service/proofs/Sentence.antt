@@ -1,9 +1,8 @@
 -- Rule 2 of collecting, said of bits: `drops` says it of masks.
 use Prim.Native.Nat.{ℕ, suc, _%_, _^_, _<_, _≤_}
 use mathlib.Core.Path.{_≡_, refl, sym, ap, _∙_}
-use mathlib.Core.Bool.{Bool, true, false, cond, _&&_, true≢false}
+use mathlib.Core.Bool.{true, false, _&&_, true≢false}
 use native.Mathlib.Nat.{le-trans}
-use native.Mathlib.Omega.{arith}
 use lib.Bits.{bitAnd, and-zero-r}
 use lib.Dec.{eqb, leb}
 use lib.Pow.{pow-mono, pow-pos}

@@ -1,10 +1,9 @@
 -- Open collections: "Held groups are dropped, if open, when any of its groups is held". Most are of an indoor bike's average speed (flags 02), cadence (04)
 -- and average cadence (08); flags with 01 are those of a part with More Data 1.
-use Prim.Native.Nat.{ℕ}
 use mathlib.Core.Bool.{true, false}
 use mathlib.Core.List.{List, [], _∷_}
 use lib.ListN.{replicate}
-use Rattle.service.specs.declared.collector.Told.the-variants.{Open, Fixed}
+use Rattle.service.specs.declared.collector.Told.the-variants.{Open}
 use Rattle.demands.specs.Collecting.Seen.{waits, hands, refuses, _answered_holding_, Case, opening}
 
 abbrev pub open-bike : List Case

@@ -1,6 +1,6 @@
 -- Openings: "opening a collection 11, 35"; "35: told set has a bit not listed for the kind". And a collection made by hand, whose kind is none.
 use Prim.Native.Nat.{ℕ, _^_}
-use mathlib.Core.Bool.{true, false}
+use mathlib.Core.Bool.{true}
 use mathlib.Core.List.{List, [], _∷_, map}
 use lib.ListN.{set}
 use Rattle.record.specs.Answer.{Answer, refused, given}

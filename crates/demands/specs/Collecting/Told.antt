@@ -1,8 +1,7 @@
 -- Fixed collections: "if fixed, when its lowest group is not above the highest held"; "fixed, and the held set differs from the told set, refusal 34".
-use Prim.Native.Nat.{ℕ}
 use mathlib.Core.Bool.{true, false}
 use mathlib.Core.List.{List, [], _∷_}
-use Rattle.service.specs.declared.collector.Told.the-variants.{Open, Fixed}
+use Rattle.service.specs.declared.collector.Told.the-variants.{Fixed}
 use Rattle.demands.specs.Collecting.Seen.{waits, hands, refuses, _answered_holding_, Case, opening}
 
 abbrev pub fixed-bike : List Case
