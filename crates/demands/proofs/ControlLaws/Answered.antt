@@ -1,5 +1,5 @@
 -- The service answers by its history.
-use Prim.Native.Nat.{ℕ, _≤_}
+use Prim.Native.Nat.{ℕ, suc, _≤_}
 use mathlib.Core.Path.{_≡_, refl, sym, ap, _∙_}
 use mathlib.Core.Bool.{Bool, true, false, cond, not, _&&_, _||_}
 use mathlib.Core.List.{List, [], _∷_, _++_, append-assoc, append-nil}
@@ -10,7 +10,7 @@ use lib.ListN.{length, getD, drop}
 use lib.Signed.{leZ, ltZ}
 use Rattle.record.specs.declared.feature.Feature.{Feature}
 use Rattle.record.specs.Answer.{Answer, refused, given}
-use Rattle.record.specs.Feature.{feature-of}
+use Rattle.record.specs.Feature.{named, words, feature-of}
 use Rattle.record.proofs.Tests.{passed, failed, tested, leb-le, leb-lt, leb-true, ltb-false}
 use Rattle.service.specs.declared.control.Console.{Console}
 use Rattle.service.specs.declared.control.ranges.Ranges.{Ranges}
@@ -29,7 +29,7 @@ use Rattle.demands.specs.Control.Point.{Call, connect, disconnect, confi
 use Rattle.demands.specs.Control.Laws.{holder-by}
 use Rattle.demands.specs.Control.History.{mode-by, awaited-by, connected-by, indicating-by}
 use Rattle.demands.specs.Control.Rules as rule
-use Rattle.demands.specs.Control.Answered.{response-by, answer-by, OctetIn, OctetsIn, reversed, refusal-by, refusal-in, AnswersByHistory}
+use Rattle.demands.specs.Control.Answered.{response-by, answer-by, OctetIn, OctetsIn, reversed, refusal-by, AnswersByHistory}
 use Rattle.demands.proofs.ControlLaws.Rules.{status-so, result-so}
 use Rattle.demands.proofs.ControlLaws.Changes.{fixed-at-opening}
 use Rattle.demands.proofs.ControlLaws.Kept.{run-keeps}
@@ -154,19 +154,37 @@ reversed-so r =
     (not-leZ (r .resistance .least) (r .resistance .greatest) i ||
     (not-leZ (r .power .least) (r .power .greatest) i || not-le (r .«heart_rate» .least) (r .«heart_rate» .greatest) i))))
 
-opens-so : (o : Opening) → refusal-in (opened o) ≡ refusal-by o
+-- an opening is refused with the number that the rule says, or gives a console
+data Outcome (o : Opening) : Type 0 where
+  refuses-so : (n : ℕ) → refusal-by o ≡ suc n → opened o ≡ refused (suc n) → Outcome o
+  opens-so : (k : Console) → refusal-by o ≡ 0 → opened o ≡ given k → Outcome o
+
+outcome : (o : Opening) → Outcome o
 unfolding opened
-opens-so o = elim (tested (eqb (length (o .feature)) 8)) [
-  | failed e ↦ rw e
+outcome o = elim (tested (eqb (length (o .feature)) 8)) [
+  | failed e ↦ refuses-so 21 (rw e) (rw e)
   | passed e ↦ elim (tested (are-ranges (o .ranges))) [
-    | passed u ↦ rw (e, ← reversed-so (o .ranges), u)
-    | failed u ↦ rw (e, ← reversed-so (o .ranges), u)
+    | passed u ↦ opens-so (first (setup-of (named (words (o .feature))) o)) (rw (e, ← reversed-so (o .ranges), u)) (rw (e, u))
+    | failed u ↦ refuses-so 15 (rw (e, ← reversed-so (o .ranges), u)) (rw (e, u))
   ]
+]
+
+service-refuses : (o : Opening) (n : ℕ) → refusal-by o ≡ suc n → opened o ≡ refused (suc n)
+service-refuses o n h = elim (outcome o) [
+  | refuses-so m e f ↦ f ∙ ap refused (sym e ∙ h)
+  | opens-so k e f ↦ absurd (let z : 0 ≡ suc n = sym e ∙ h in omega arith)
+]
+
+service-opens : (o : Opening) → refusal-by o ≡ 0 → (k : Console) × (opened o ≡ given k)
+service-opens o h = elim (outcome o) [
+  | refuses-so m e f ↦ absurd (let z : suc m ≡ 0 = sym e ∙ h in omega arith)
+  | opens-so k e f ↦ (k, f)
 ]
 
 pub answers-by-history : AnswersByHistory service
 answers-by-history = record {
-  opens = opens-so;
+  refuses = service-refuses;
+  opens = service-opens;
   answers = λ o f e k h qs q w. answer-so (setup-of f o) (run service k [] qs .0) (run service k [] qs .1) (record {
     setup-so = run-keeps (λ x. x .machine .setup ≡ setup-of f o) (λ x q s. fixed-at-opening x q ∙ s) k [] qs (opened-so o f k e h);
     holder-so = holder-by-history o k h qs;
@@ -195,5 +213,10 @@ module _ {S R : Type 0} (p : Point S) (r : Point R) (a : AnswersByHistory p) (b 
       rw (← append-assoc past (q ∷ []) qs)
       (decides (past ++ q ∷ []) qs (w .1) (run-more p x [] past q ∙ (λ i. event q (c i) ∷ s i) ∙ sym (run-more r y [] past q)))
 
-  pub history-decides : (qs : List Call) → OctetsIn qs → run p x [] qs .0 ≡ run r y [] qs .0
-  history-decides qs w = decides [] qs w (unfold run in refl)
+-- two that answer by their history open alike and answer alike
+pub history-decides : {S R : Type 0} (p : Point S) (r : Point R) → AnswersByHistory p → AnswersByHistory r → (o : Opening) (f : Feature) →
+    feature-of (o .feature) ≡ given f → refusal-by o ≡ 0 →
+    (x : S) × (y : R) × (p .opening o ≡ given x) × (r .opening o ≡ given y) × ((qs : List Call) → OctetsIn qs → run p x [] qs .0 ≡ run r y [] qs .0)
+history-decides p r a b o f e h =
+    (a .opens o h .0, b .opens o h .0, a .opens o h .1, b .opens o h .1,
+    λ qs w. decides p r a b o f e (a .opens o h .0) (a .opens o h .1) (b .opens o h .0) (b .opens o h .1) [] qs w (unfold run in refl))

@@ -25,6 +25,7 @@ use Rattle.service.specs.Control.Calls.{Opening, opened, writes}
 use Rattle.service.proofs.ControlLaws.Answers.{setup-of}
 use Rattle.demands.specs.Control.Point.{Call, connect, disconnect, confirm, indicate, write, service, Event, event, step, run}
 use Rattle.demands.specs.Control.Laws.{by, result-in, succeeded, is-disconnect, ends, unless-ended, holder-by}
+use Rattle.demands.specs.Control.History.{HolderByHistory}
 use Rattle.demands.proofs.ControlLaws.Numbers.{Number, number-so, not-01}
 use Rattle.demands.proofs.ControlLaws.Steps.{responding, Stepped, refusal, connected, gone, indicated, confirmed, denied, granted, steps}
 use Rattle.demands.proofs.ControlLaws.Kept.{opened-first}
@@ -138,3 +139,7 @@ taken k c p h = from (steps k (write c (0x00 ∷ p))) h
     from (refusal n l g) e = absurd (omega arith)
     from (denied c o p i r f) e = absurd (eqb-ne (result-number r) 1 (not-01 r f) e)
     from (granted c o p i x f g) e = from-act (x .act) (number-so 0x00 x f)
+
+-- the same as a law on any control point that keeps a console
+pub holder-remembered : HolderByHistory service
+holder-remembered = holder-by-history

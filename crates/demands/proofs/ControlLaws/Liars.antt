@@ -1,12 +1,12 @@
 -- Control points that are wrong in one thing, in the console that they keep or in an answer: each breaks the law of that thing.
 use Prim.Native.Nat.{ℕ}
 use mathlib.Core.Path.{_≡_, refl, sym, ap}
-use mathlib.Core.Bool.{true, false, cond, true≢false}
+use mathlib.Core.Bool.{Bool, true, false, cond, not, true≢false}
 use mathlib.Core.List.{List, [], _∷_, _++_}
 use native.Mathlib.Omega.{arith}
 use lib.Dec.{eqb, lit≤}
 use lib.ListN.{getD}
-use Rattle.record.specs.Answer.{Answer, given}
+use Rattle.record.specs.Answer.{Answer, refused, given}
 use Rattle.record.specs.Feature.{feature-of}
 use Rattle.record.specs.Groups.{has}
 use Rattle.record.specs.Octets.{number}
@@ -15,18 +15,25 @@ use Rattle.service.specs.declared.control.machine.Mode.{Mode}
 use Rattle.service.specs.declared.control.machine.Mode.the-variants.{Stopped, Running, Paused}
 use Rattle.service.specs.declared.control.machine.Who.the-variants.{Nobody}
 use Rattle.service.specs.Control.OpCodes.{op-code}
-use Rattle.service.specs.Control.Machine.{is, someone, without, going}
+use Rattle.service.specs.Control.Machine.{is, someone, without, held-by, going, storing}
 use Rattle.service.specs.Control.Judging.{fit, judged}
-use Rattle.service.specs.Control.Console.{closed, with-client, awaiting}
+use Rattle.service.specs.Control.Effects.{setting}
+use Rattle.service.specs.Control.Console.{first, closed, with-client, awaiting}
 use Rattle.service.specs.Control.Replies.{Sent, sent, refusal-of}
 use Rattle.service.specs.Control.Calls.{opened, connects, disconnects, indicates, confirms, writes}
 use Rattle.demands.specs.Control.Point.{Call, connect, disconnect, confirm, indicate, write, Point, step, run}
-use Rattle.demands.specs.Control.Laws.{result-in, holder-by}
-use Rattle.demands.specs.Control.History.{mode-by, awaited-by, connected-by, indicating-by, ModeByHistory, AwaitedByHistory, ConnectedByHistory, IndicatingByHistory}
-use Rattle.demands.specs.Control.Answered.{AnswersByHistory}
+use Rattle.demands.specs.Control.Laws.{result-in, holder-by, setting-by}
+use Rattle.demands.specs.Control.History.{mode-by, awaited-by, connected-by, indicating-by, ModeByHistory, AwaitedByHistory, ConnectedByHistory, IndicatingByHistory, HolderByHistory, SettingByHistory}
+use Rattle.demands.specs.Control.Answered.{refusal-by, AnswersByHistory}
 use Rattle.demands.specs.Control.Cases.{ready, asks, holds}
 use Rattle.demands.specs.Control.Rules.{stopped}
+use Rattle.demands.specs.Control.Worked.Ends.{able}
+use Rattle.demands.specs.Control.Worked.Openings.{fair}
 use Rattle.demands.proofs.ControlLaws.Meets.{plain, opens-so}
+
+-- a machine with every target setting, opened
+abbrev able-console : Console
+able-console = first (record { feature = record { features = 0; targets = 0x1FFFF }; ranges = fair })
 
 -- the service, but that a call and the console before it alter the console after it
 abbrev pub altered : (Call → Console → Console → Console) → Point Console
@@ -133,7 +140,72 @@ pub on-at-connect-refuted : IndicatingByHistory on-at-connect → ⊥
 unfolding run connects indicating-by
 on-at-connect-refuted h = true≢false (h 0 plain closed opens-so (connect 0 ∷ []))
 
+-- ---- who holds control, and the settings
+
+-- a client that has gone keeps control
+abbrev in-control : Console → Console → Console
+in-control before after = record { machine = held-by (after .machine) (before .machine .holder); clients = after .clients; awaited = after .awaited }
+
+abbrev keeps-control : Call → Console → Console → Console
+keeps-control (connect c) before after = after
+keeps-control (disconnect c) before after = in-control before after
+keeps-control (confirm c) before after = after
+keeps-control (indicate c on) before after = after
+keeps-control (write c s) before after = after
+
+abbrev pub gone-holding : Point Console
+gone-holding = altered keeps-control
+
+pub gone-holding-refuted : HolderByHistory gone-holding → ⊥
+unfolding run connects disconnects indicates confirms writes op-code fit judged number holder-by
+gone-holding-refuted h = true≢false (ap someone (h plain closed opens-so (holds 0 ++ disconnect 0 ∷ [])))
+
+-- settings as they were before a write: of one op code, or of any but a reset
+abbrev with-settings : Console → Console → Console
+with-settings before after = record { machine = storing (after .machine) (before .machine .settings); clients = after .clients; awaited = after .awaited }
+
+abbrev unsaved : (ℕ → Bool) → Call → Console → Console → Console
+unsaved f (connect c) before after = after
+unsaved f (disconnect c) before after = after
+unsaved f (confirm c) before after = after
+unsaved f (indicate c on) before after = after
+unsaved f (write c s) before after = cond (f (getD s 0 0)) (with-settings before after) after
+
+-- a machine that stores nothing; and one whose reset keeps its settings
+abbrev pub stores-nothing : Point Console
+stores-nothing = altered (unsaved (λ o. not (eqb o 0x01)))
+
+abbrev pub reset-keeps : Point Console
+reset-keeps = altered (unsaved (λ o. eqb o 0x01))
+
+able-opens : opened (able fair) ≡ given able-console
+unfolding opened number
+able-opens = refl
+
+set-speed : List Call
+set-speed = holds 0 ++ asks 0 (0x02 ∷ 0xe8 ∷ 0x03 ∷ [])
+
+pub stores-nothing-refuted : SettingByHistory stores-nothing → ⊥
+unfolding set-speed run connects indicates confirms writes op-code fit judged number has setting setting-by
+stores-nothing-refuted h = let e : _≡_ {A = ℕ} 0 0xe8 = ap (λ (s : List ℕ). getD s 0 0) (h 0x02 refl (able fair) able-console able-opens set-speed) in omega arith
+
+pub reset-keeps-refuted : SettingByHistory reset-keeps → ⊥
+unfolding set-speed run connects indicates confirms writes op-code fit judged number has setting setting-by
+reset-keeps-refuted h =
+    let e : _≡_ {A = ℕ} 0xe8 0 = ap (λ (s : List ℕ). getD s 0 0) (h 0x02 refl (able fair) able-console able-opens (set-speed ++ asks 0 (0x01 ∷ []))) in
+    omega arith
+
 -- ---- answers
+
+-- a control point that opens nothing
+abbrev pub never : Point Console
+never = record { opening = λ o. refused (refusal-by o); calling = λ k q. (refused 0, k) }
+
+pub never-refuted : AnswersByHistory never → ⊥
+never-refuted h =
+    let x : (k : Console) × (_≡_ {A = Answer Console} (refused 0) (given k)) = h .opens plain refl in
+    let e : _≡_ {A = Answer Console} (refused 0) (given (x .0)) = x .1 in
+    let z : _≡_ {A = ℕ} 0 1 = cc in omega arith
 
 -- the service, but that the console before a call alters the answer to it
 abbrev pub retold : (Call → Console → Answer Sent → Answer Sent) → Point Console

@@ -28,6 +28,7 @@ use Rattle.service.proofs.ControlLaws.Fits.{length-fit}
 use Rattle.service.proofs.ControlLaws.Answers.{setup-of}
 use Rattle.demands.specs.Control.Point.{Call, write, service, Event, event, step, run}
 use Rattle.demands.specs.Control.Laws.{Sound, keeps, stores, zero-setting, parameter, result-in, succeeded, setting-by}
+use Rattle.demands.specs.Control.History.{SettingByHistory}
 use Rattle.demands.proofs.ControlLaws.Numbers.{Number, number-so, not-01}
 use Rattle.demands.proofs.ControlLaws.Steps.{Stepped, refusal, connected, gone, indicated, confirmed, denied, granted, steps}
 use Rattle.demands.proofs.ControlLaws.Places.{stored-same, stored-other, zero-at}
@@ -90,6 +91,10 @@ pub setting-by-history : (o : Opening) (k : Console) → opened o ≡ given k �
 setting-by-history o k e qs i t =
     let f : (f : Feature) × (k ≡ first (setup-of f o)) = opened-first o k e in
     follows i t k (rw (f .1) (sound-first (setup-of (f .0) o))) [] qs (rw (f .1) (unfold setting setting-by in zero-at i))
+
+-- the same as a law on any control point that keeps a console
+pub settings-remembered : SettingByHistory service
+settings-remembered i t o k e qs = setting-by-history o k e qs i t
 
 -- ---- a write of an op code that stores succeeds for the holder alone
 pub granted-to-holder : (k : Console) (c o : ℕ) (p : List ℕ) → stores (op-code o) ≡ true → result-in (writes k c (o ∷ p) .0) ≡ result-number Success →

@@ -15,6 +15,7 @@ use Rattle.demands.specs.Control.Worked.Openings.{opened-to, expected-to
 use Rattle.demands.specs.Control.Worked.Callers.{callers}
 use Rattle.demands.specs.Control.Worked.Courses.{courses, each-setting}
 use Rattle.demands.specs.Control.Worked.Needs.{needs}
+use Rattle.demands.specs.Control.Worked.Orders.{orders}
 
 pub modes-hold : map (found each) modes ≡ map told modes
 unfolding number has op-code fit judged setting opened connects disconnects indicates confirms writes run
@@ -43,3 +44,7 @@ each-setting-holds = refl
 pub needs-hold : map (found each) needs ≡ map told needs
 unfolding number has op-code fit judged setting opened connects disconnects indicates confirms writes run
 needs-hold = refl
+
+pub orders-hold : map (found each) orders ≡ map told orders
+unfolding number has op-code fit judged setting opened connects disconnects indicates confirms writes run
+orders-hold = refl

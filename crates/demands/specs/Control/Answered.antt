@@ -1,5 +1,5 @@
 -- Every answer by what has happened alone: the control point a second time, by its history and by the rules of the op codes, and by no console.
-use Prim.Native.Nat.{ℕ, _≤_}
+use Prim.Native.Nat.{ℕ, suc, _≤_}
 use mathlib.Core.Path.{_≡_}
 use mathlib.Core.Bool.{Bool, cond, not, _||_}
 use mathlib.Core.List.{List, [], _∷_}
@@ -68,13 +68,10 @@ reversed r =
 abbrev pub refusal-by : Opening → ℕ
 refusal-by o = cond (not (eqb (length (o .feature)) 8)) 22 (cond (reversed (o .ranges)) 16 0)
 
-abbrev pub refusal-in : {A : Type 0} → Answer A → ℕ
-refusal-in (refused n) = n
-refusal-in (given x) = 0
-
--- a control point that refuses these openings, and whose next answer, after every sequence of calls from any other, is the one that this says
+-- a control point that refuses these openings and no others, and whose next answer, after every sequence of calls, is the one that this says
 pub record AnswersByHistory {S : Type 0} (p : Point S) : Type 0 where
-  pub opens : (o : Opening) → refusal-in (p .opening o) ≡ refusal-by o
+  pub refuses : (o : Opening) (n : ℕ) → refusal-by o ≡ suc n → p .opening o ≡ refused (suc n)
+  pub opens : (o : Opening) → refusal-by o ≡ 0 → (x : S) × (p .opening o ≡ given x)
   pub answers : (o : Opening) (f : Feature) → feature-of (o .feature) ≡ given f → (x : S) → p .opening o ≡ given x →
       (qs : List Call) (q : Call) → OctetIn q →
       p .calling (run p x [] qs .1) q .0 ≡ answer-by (record { feature = f; ranges = o .ranges }) (run p x [] qs .0) q

@@ -11,12 +11,14 @@ use Rattle.service.specs.declared.control.machine.Mode.{Mode}
 use Rattle.service.specs.declared.control.machine.Mode.the-variants.{Stopped, Running, Paused}
 use Rattle.service.specs.declared.control.machine.Who.{Who}
 use Rattle.service.specs.declared.control.machine.Who.the-variants.{Nobody}
+use Rattle.service.specs.Control.OpCodes.{op-code}
 use Rattle.service.specs.Control.Machine.{is}
+use Rattle.service.specs.Control.Effects.{setting}
 use Rattle.service.specs.Control.Console.{is-connected, is-indicating}
 use Rattle.service.specs.Control.Replies.{refusal-of}
 use Rattle.service.specs.Control.Calls.{Opening}
 use Rattle.demands.specs.Control.Point.{Call, connect, disconnect, confirm, indicate, write, Point, Event, run}
-use Rattle.demands.specs.Control.Laws.{by, parameter, result-in, succeeded}
+use Rattle.demands.specs.Control.Laws.{stores, by, parameter, result-in, succeeded, holder-by, setting-by}
 
 -- a call that was not refused, and one of this client
 abbrev pub accepted : Event → Bool
@@ -94,7 +96,7 @@ indicating-by c (e ∷ past) = let before : Bool = indicating-by c past in cond 
 
 -- ---- the laws, of any control point that keeps a console
 
--- after every sequence of calls from opening, what is read of the console is what has happened says
+-- after every sequence of calls from opening, what is read of the console is what the history says
 abbrev pub ByHistory : Point Console → {A : Type 0} → (Console → A) → (List Event → A) → Type 0
 ByHistory p read says = (o : Opening) (k : Console) → p .opening o ≡ given k → (qs : List Call) → read (run p k [] qs .1) ≡ says (run p k [] qs .0)
 
@@ -110,3 +112,11 @@ module _ (p : Point Console) where
 
   abbrev pub IndicatingByHistory : Type 0
   IndicatingByHistory = (c : ℕ) → ByHistory p (λ k. is-indicating k c) (indicating-by c)
+
+  -- "00 gives control; 01 .. frees control"; "Disconnect frees control held by that client"
+  abbrev pub HolderByHistory : Type 0
+  HolderByHistory = ByHistory p (λ k. k .machine .holder) (λ past. holder-by past [])
+
+  -- "01 zeroes every setting"; "02 to 06, 09 to 12 and 14 store the parameter octets"
+  abbrev pub SettingByHistory : Type 0
+  SettingByHistory = (o : ℕ) → stores (op-code o) ≡ true → ByHistory p (λ k. setting (k .machine) o) (setting-by o)

@@ -138,7 +138,7 @@ setting-by o (e ∷ past) =
 
 -- ---- what a call may change, and who may write
 
--- a client whose next write is answered, whatever it writes: "A write is judged in this order: 10, 17, 18, 19, 20"
+-- a client whose next write of one octet or more is answered, whatever it writes: "A write is judged in this order: 10, 17, 18, 19, 20"
 pub record Heard (k : Console) (c : ℕ) : Type 0 where
   pub small : c ≤ 3
   pub joined : is-connected k c ≡ true

@@ -6,3 +6,4 @@ pub mod Openings
 pub mod Callers
 pub mod Courses
 pub mod Needs
+pub mod Orders
