@@ -39,7 +39,7 @@ infix 5 _opens_
 abbrev pub at-first : Answer State
 at-first = given (state Stopped Nobody Nobody [] [] [])
 
--- each range reversed alone, by one and by signs, with every target setting and with none; each range of one number; and the Feature's octets
+-- each range reversed alone, by one and by signs, with every target setting, and speed's with none; each range of one number; and the Feature's octets
 abbrev pub openings : List Case
 openings =
     (able fair opens at-first) ∷
