@@ -1,25 +1,23 @@
 -- Whatever octets a collector has heard, what it hands out is a well-formed record: no value of a record before is left in it.
-use Prim.Native.Nat.{ℕ, zero, suc, _+_, _-_, _/_, _%_, _^_, _<_, _≤_, min}
+use Prim.Native.Nat.{ℕ, _-_, _%_, _<_}
 use mathlib.Core.Path.{_≡_, refl, sym, ap, _∙_, subst}
-use mathlib.Core.Bool.{Bool, true, false, cond, _||_, true≢false}
+use mathlib.Core.Bool.{Bool, true, false, cond, true≢false}
 use mathlib.Core.List.{List}
 use native.Mathlib.Omega.{arith}
 use lib.Bits.{bitOr}
 use lib.Dec.{eqb, leb}
-use lib.ListN.{getD, drop}
-use lib.Seq.{getD-drop}
+use lib.ListN.{getD}
 use Rattle.record.specs.declared.notification.Part.{Part}
 use Rattle.record.specs.declared.record.Record.{Record}
 use Rattle.record.specs.Answer.{Answer, given}
 use Rattle.record.specs.Answer as Answer
-use Rattle.record.specs.Layout.{layout}
-use Rattle.record.specs.Groups.{has, named, known, listed, optional, turned, flags-octets}
-use Rattle.record.specs.Notification.{flags-of, names, heading, part-of, read-into, values, joined}
-use Rattle.record.specs.Record.{of-wire, formed}
-use Rattle.record.proofs.Clean.{Clean, clean-read, clean-zeros, clean-formed}
-use Rattle.record.proofs.Parts.{listed-even, with-main, sub-suc}
-use Rattle.record.proofs.Sets.{Sub, sub-trans, sub-same, sub-or, sub-or-l, sub-or-r, and-of-sub, has-or, has-and, has-zero, has-half, has-empty, lowest-and, lowest-or}
-use Rattle.record.proofs.Tests.{and-r, eqb-true, eqb-eq, eqb-ne, leb-true}
+use Rattle.record.specs.Groups.{has, known, listed, optional}
+use Rattle.record.specs.Notification.{flags-of, names, heading, part-of, values, joined}
+use Rattle.record.specs.Record.{of-wire}
+use Rattle.record.proofs.Clean.{Clean, clean-zeros}
+use Rattle.record.proofs.Joined.{held-even, held-listed, clean-waiting, formed-last}
+use Rattle.record.proofs.Sets.{Sub, has-empty}
+use Rattle.record.proofs.Tests.{eqb-eq, eqb-ne}
 use Rattle.record.proofs.Tolerance.{part-is}
 use Rattle.service.specs.declared.collector.Told.{Told}
 use Rattle.service.specs.declared.collector.Collection.{Collection}
@@ -59,114 +57,6 @@ tag (refused n d) = 2
 
 same-handed : (r s : Record) (d e : Bool) → handed r d ≡ handed s e → r ≡ s
 same-handed r s d e h = cc
-
--- ---- sets
-
--- the optional groups of a set that lies in some even groups and the main one
-opt-sub : (n a : ℕ) → a % 2 ≡ 0 → Sub n (1 + a) → Sub (optional n) a
-opt-sub n a e s = record { member = go }
-  where
-    go : (i : ℕ) → has (optional n) i ≡ true → has a i ≡ true
-    go zero h =
-        let z : (n - n % 2) % 2 ≡ 0 = omega arith in
-        absurd (true≢false (sym h ∙ has-zero (optional n) ∙ ap (λ (x : ℕ). eqb x 1) z))
-    go (suc i) h =
-        let p : (n - n % 2) / 2 ≡ n / 2 = omega arith in
-        let q : (1 + a) / 2 ≡ a / 2 = omega arith in
-        sym (has-half a i) ∙ ap (λ (x : ℕ). has x i) (sym q) ∙ has-half (1 + a) i
-        ∙ s .member (suc i) (sym (has-half n i) ∙ ap (λ (x : ℕ). has x i) (sym p) ∙ has-half (optional n) i ∙ h)
-
-or-even : (a b : ℕ) → a % 2 ≡ 0 → b % 2 ≡ 0 → bitOr a b % 2 ≡ 0
-or-even a b e f = lowest-or a b ∙ rw (e, f)
-
-or-either : (a b i : ℕ) → has (bitOr a b) i ≡ true → has b i ≡ false → has a i ≡ true
-or-either a b i h n = pick (has a i) (has b i) (sym (has-or a b i) ∙ h) n
-  where
-    pick : (x y : Bool) → (x || y) ≡ true → y ≡ false → x ≡ true
-    pick true y e f = refl
-    pick false y e f = absurd (true≢false (sym e ∙ f))
-
--- ---- a part that joins
-
-module _ (kind : ℕ) (k : known kind ≡ true) (s : List ℕ) (octets : (i : ℕ) → getD s i 0 < 256) where
-  abbrev flags : ℕ
-  flags = flags-of kind s
-
-  abbrev N : ℕ
-  N = names kind flags
-
-  named-listed : Sub N (1 + listed kind)
-  named-listed = record {
-    member = λ i h. and-r (has (turned flags) i) (has (1 + listed kind) i) (sym (has-and (turned flags) (1 + listed kind) i) ∙ h);
-  }
-
-  groups-listed : Sub (optional N) (listed kind)
-  groups-listed = opt-sub N (listed kind) (listed-even kind) named-listed
-
-  body-octets : (i : ℕ) → getD (drop (flags-octets kind) s) i 0 < 256
-  body-octets i = rw (getD-drop (flags-octets kind) s i 0) (octets (flags-octets kind + i))
-
-  main-bit : (x : ℕ) → turned flags % 2 ≡ x → x ≤ 1 → N % 2 ≡ x
-  main-bit x t l =
-      let e : listed kind % 2 ≡ 0 = listed-even kind in
-      let u : (1 + listed kind) % 2 ≡ 1 = omega arith in
-      let m : min x 1 ≡ x = omega arith in
-      lowest-and (turned flags) (1 + listed kind) ∙ rw (t, u) m
-
-  -- what is held once the part has joined, over numbers that hold S
-  module _ (S : ℕ) (v : List ℕ) (e : S % 2 ≡ 0) (inside : Sub S (listed kind)) (c : Clean kind S v) where
-    abbrev held : ℕ
-    held = bitOr S (optional N)
-
-    held-even : held % 2 ≡ 0
-    held-even = let z : (N - N % 2) % 2 ≡ 0 = omega arith in or-even S (optional N) e z
-
-    held-listed : Sub held (listed kind)
-    held-listed = sub-or inside groups-listed
-
-    -- with More Data 1
-    clean-waiting : flags % 2 ≡ 1 → Clean kind held (joined kind s v)
-    unfolding values
-    clean-waiting m =
-        let t : turned flags % 2 ≡ 0 = omega arith in
-        let z : N % 2 ≡ 0 = main-bit 0 t (omega arith) in
-        let o : optional N ≡ N = omega arith in
-        subst (λ (g : ℕ). Clean kind (bitOr S g) (read-into (named N (layout kind)) (drop (flags-octets kind) s) v)) (sym o)
-        (clean-read kind S N (bitOr S N) v (drop (flags-octets kind) s) c (sub-or-l S N) (sub-or-r S N) (λ b h n. or-either S N b h n) body-octets)
-
-    -- with More Data 0
-    clean-last : flags % 2 ≡ 0 → Clean kind (1 + held) (joined kind s v)
-    unfolding values
-    clean-last m =
-        let t : turned flags % 2 ≡ 1 = omega arith in
-        let z : N % 2 ≡ 1 = main-bit 1 t (omega arith) in
-        let o : 1 + optional N ≡ N = omega arith in
-        let y : optional N % 2 ≡ 0 = omega arith in
-        let all : bitOr held 1 ≡ 1 + held = with-main held held-even in
-        let mine : bitOr (optional N) 1 ≡ N = with-main (optional N) y ∙ o in
-        let sub-S : Sub S (1 + held) = sub-trans (sub-or-l S (optional N)) (sub-suc held held-even) in
-        let sub-N : Sub N (1 + held) =
-        sub-trans (sub-same (sym mine)) (sub-or (sub-trans (sub-or-r S (optional N)) (sub-suc held held-even)) (sub-trans (sub-or-r held 1) (sub-same all))) in
-        clean-read kind S N (1 + held) v (drop (flags-octets kind) s) c sub-S sub-N
-        (λ b h n.
-        let in-N : has (bitOr (optional N) 1) b ≡ false = ap (λ (x : ℕ). has x b) mine ∙ n in
-        let parts : has (optional N) b ≡ false × (has 1 b ≡ false) = neither (has (optional N) b) (has 1 b) (sym (has-or (optional N) 1 b) ∙ in-N) in
-        or-either S (optional N) b (or-either held 1 b (ap (λ (x : ℕ). has x b) all ∙ h) (parts .1)) (parts .0)) body-octets
-      where
-        neither : (x y : Bool) → (x || y) ≡ false → (x ≡ false) × (y ≡ false)
-        neither true y e = absurd (true≢false e)
-        neither false y e = (refl, e)
-
-    way : (b : Bool) (x : ℕ) → leb (cond b (x % 2) 0) (cond b 1 0) ≡ true
-    way true x = let h : x % 2 ≤ 1 = omega arith in leb-true h
-    way false x = refl
-
-    -- what is handed out is well formed
-    good-last : flags % 2 ≡ 0 → Good (of-wire kind held (heading kind flags) (joined kind s v))
-    good-last m =
-        let w : Clean kind (1 + held) (joined kind s v) = clean-last m in
-        good kind held (heading kind flags) (joined kind s v) (w .long)
-        (clean-formed kind held (heading kind flags) (joined kind s v) w k (eqb-true (and-of-sub held (listed kind) held-listed)) (way (eqb kind 2) (flags / 2 ^ 15)))
 
 -- ---- a step
 
@@ -212,8 +102,9 @@ module _ (c : Collection) (t : Tidy c) (s : List ℕ) (octets : (i : ℕ) → ge
     next-tidy = tidy-empty (c .kind) (c .told) (t .kind-known);
     hands-good = λ r d h.
         subst Good (same-handed _ r dropped d h)
-        (good-last (c .kind) (t .kind-known) s octets (cond dropped 0 (c .held)) (cond dropped zeros (c .numbers)) (left-even dropped) (left-inside dropped)
-        (left-clean dropped) (eqb-eq (flags-of (c .kind) s % 2) 0 e));
+        (let f = formed-last (c .kind) (t .kind-known) s octets (cond dropped 0 (c .held)) (cond dropped zeros (c .numbers)) (left-even dropped) (left-inside dropped)
+        (left-clean dropped) (eqb-eq (flags-of (c .kind) s % 2) 0 e) in
+        good (c .kind) _ _ _ (f .0) (f .1));
   }
   tidied-joined dropped false lacking e =
       let n : flags-of (c .kind) s % 2 ≡ 0 → ⊥ = eqb-ne (flags-of (c .kind) s % 2) 0 e in

@@ -22,6 +22,7 @@ pub mod SampleLaws
 pub mod Tolerance
 pub mod ReadRows
 pub mod Clean
+pub mod Joined
 pub mod Once
 pub mod TablesOnce
 pub mod OctetsOnce

@@ -1,19 +1,19 @@
 -- The numbers that reading leaves: each field stands in one row of a kind, so that what is read fits its width and nothing else is touched.
-use Prim.Native.Nat.{ℕ, zero, suc, _+_, _^_, _<_}
-use mathlib.Core.Path.{_≡_, refl, sym, ap, _∙_}
+use Prim.Native.Nat.{ℕ, _+_, _^_, _<_}
+use mathlib.Core.Path.{_≡_, refl, sym, _∙_}
 use mathlib.Core.Bool.{Bool, true, false, cond, not, _&&_}
 use mathlib.Core.List.{List, [], _∷_}
 use native.Mathlib.Omega.{arith}
 use borrow.Author.Tests.{lt-ltb, ltb-true}
 use lib.Dec.{eqb, ltb}
-use lib.ListN.{length, getD, set, drop, replicate, length-set}
-use lib.Seq.{set-comm, set-set, getD-drop, getD-set-same, getD-set-other}
+use lib.ListN.{length, getD, set, drop, length-set}
+use lib.Seq.{getD-drop, getD-set-same, getD-set-other}
 use Rattle.record.specs.declared.layout.Row.{Row}
 use Rattle.record.specs.Layout.{layout, octets-of, tables, treadmill, cross-trainer, step-climber, stair-climber, rower, indoor-bike}
 use Rattle.record.specs.Groups.{has, named}
 use Rattle.record.specs.Octets.{number}
 use Rattle.record.specs.Notification.{read-into}
-use Rattle.record.specs.Record.{all-fit, others, all-zero}
+use Rattle.record.specs.Record.{all-fit}
 use Rattle.record.proofs.OctetLaws.{number-below}
 use Rattle.record.proofs.Tests.{and-l, and-r, eqb-ne, all, all-at}
 
@@ -68,15 +68,6 @@ read-apart (r ∷ rows) s z f e =
     let a = apart f r rows e in
     read-apart rows (drop (octets-of (r .2)) s) (set z (r .1) (number (octets-of (r .2)) s)) f (a .1) ∙ getD-set-other z (r .1) f (number (octets-of (r .2)) s) 0 (a .0)
 
-read-set : (rows : List Row) (s z : List ℕ) (f x : ℕ) → all (other f) rows ≡ true → set (read-into rows s z) f x ≡ read-into rows s (set z f x)
-unfolding read-into
-read-set [] s z f x e = refl
-read-set (r ∷ rows) s z f x e =
-    let a = apart f r rows e in
-    let n : ℕ = number (octets-of (r .2)) s in
-    read-set rows (drop (octets-of (r .2)) s) (set z (r .1) n) f x (a .1) ∙
-    ap (read-into rows (drop (octets-of (r .2)) s)) (set-comm z (r .1) f n x (λ h. a .0 (sym h)))
-
 module _ (r : Row) (rows : List Row) (e : distinct (r ∷ rows) ≡ true) where
   abbrev first : Bool
   first = ltb (r .1) 31 && all (other (r .1)) rows
@@ -102,28 +93,3 @@ fit-read (r ∷ rows) s z e l h =
     read-apart rows (drop w s) (set z (r .1) n) (r .1) (others-apart r rows e) ∙ getD-set-same z (r .1) n 0 (omega arith) in
     rw (g, lt-ltb n (256 ^ w) (number-below w s h))
     (fit-read rows (drop w s) (set z (r .1) n) (rest-distinct r rows e) (length-set z (r .1) n ∙ l) (λ i. rw (getD-drop w s i 0) (h (w + i))))
-
--- reading touches no field but those of its rows
-pub others-read : (rows : List Row) (s z : List ℕ) → distinct rows ≡ true → others rows (read-into rows s z) ≡ others rows z
-unfolding read-into others
-others-read [] s z e = refl
-others-read (r ∷ rows) s z e =
-    let w : ℕ = octets-of (r .2) in
-    let n : ℕ = number w s in
-    ap (others rows) (read-set rows (drop w s) (set z (r .1) n) (r .1) 0 (others-apart r rows e) ∙ ap (read-into rows (drop w s)) (set-set z (r .1) n 0)) ∙
-    others-read rows (drop w s) (set z (r .1) 0) (rest-distinct r rows e)
-
-zero-set : (n f : ℕ) → set {A = ℕ} (replicate n 0) f 0 ≡ replicate n 0
-zero-set zero f = refl
-zero-set (suc n) zero = refl
-zero-set (suc n) (suc f) = ap (λ (l : List ℕ). 0 ∷ l) (zero-set n f)
-
-pub others-zero : (rows : List Row) (n : ℕ) → others rows (replicate n 0) ≡ replicate n 0
-unfolding others
-others-zero [] n = refl
-others-zero (r ∷ rows) n = ap (others rows) (zero-set n (r .1)) ∙ others-zero rows n
-
-pub zeros-zero : (n : ℕ) → all-zero (replicate n 0) ≡ true
-unfolding all-zero
-zeros-zero zero = refl
-zeros-zero (suc n) = zeros-zero n

@@ -217,6 +217,10 @@ module _ {S R : Type 0} (p : Point S) (r : Point R) (a : AnswersByHistory p) (b 
 pub history-decides : {S R : Type 0} (p : Point S) (r : Point R) → AnswersByHistory p → AnswersByHistory r → (o : Opening) (f : Feature) →
     feature-of (o .feature) ≡ given f → refusal-by o ≡ 0 →
     (x : S) × (y : R) × (p .opening o ≡ given x) × (r .opening o ≡ given y) × ((qs : List Call) → OctetsIn qs → run p x [] qs .0 ≡ run r y [] qs .0)
-history-decides p r a b o f e h =
-    (a .opens o h .0, b .opens o h .0, a .opens o h .1, b .opens o h .1,
-    λ qs w. decides p r a b o f e (a .opens o h .0) (a .opens o h .1) (b .opens o h .0) (b .opens o h .1) [] qs w (unfold run in refl))
+history-decides p r a b o f e h = (
+  a .opens o h .0,
+  b .opens o h .0,
+  a .opens o h .1,
+  b .opens o h .1,
+  λ qs w. decides p r a b o f e (a .opens o h .0) (a .opens o h .1) (b .opens o h .0) (b .opens o h .1) [] qs w (unfold run in refl),
+)
