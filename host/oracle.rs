@@ -1,66 +1,17 @@
 // Writes cases from a fixed seed, each with what must come of it, for `compare` to hold the library to. With arguments: `capture SIZE` writes a
-// capture of that size, of kind 1 + SIZE mod 6; `list` the listing of the capture on standard input; `whole KIND` and `full KIND` what `bench` takes.
+// capture of that size, of kind 1 + SIZE mod 6, and `capture SIZE-whole`, `SIZE-length` and `SIZE-notification` one that ends so; `list` the listing of
+// the capture on standard input; `calls`, `streams`, `losses` and `forms` a script for the program replay, and `replay` what it must print for the script on
+// standard input; `whole KIND` and `full KIND` what `bench` takes.
+mod chance;
+mod forms;
+mod losses;
+mod replay;
 mod rules;
+mod scripts;
 
+use chance::{any_record, damaged, Chance};
 use rules::{group_octets, layout, listing, notification, pieces, split, Groups};
 use std::io::{self, BufWriter, Read, Write};
-
-// Numbers from a fixed seed.
-struct Chance(u64);
-
-impl Chance {
-    fn next(&mut self) -> u64 {
-        self.0 = self.0.wrapping_add(0x9e3779b97f4a7c15);
-        let mut z = self.0;
-        z = (z ^ (z >> 30)).wrapping_mul(0xbf58476d1ce4e5b9);
-        z = (z ^ (z >> 27)).wrapping_mul(0x94d049bb133111eb);
-        z ^ (z >> 31)
-    }
-
-    fn below(&mut self, n: u64) -> u64 {
-        self.next() % n
-    }
-
-    fn pick(&mut self, from: &[u64]) -> u64 {
-        from[self.below(from.len() as u64) as usize]
-    }
-}
-
-fn any_record(c: &mut Chance, kind: u32) -> (Groups, u32) {
-    let how = c.below(8);
-    let alone = c.below(15) as usize;
-    let mut groups = Groups::new();
-    for (bit, group) in layout(kind).iter().enumerate() {
-        let present = match how {
-            0 => true,
-            1 => false,
-            2 => bit == alone,
-            _ => c.below(2) == 1,
-        };
-        if bit == 0 || present {
-            let any = (0..group_octets(group)).map(|_| if c.below(4) == 0 { c.pick(&[0, 127, 128, 255]) as u8 } else { c.next() as u8 });
-            groups.insert(bit, any.collect());
-        }
-    }
-    (groups, if kind == 2 { c.below(2) as u32 } else { 0 })
-}
-
-// Reserved bits set, octets added behind, cut short, More Data turned, an octet changed, or left as it is.
-fn damaged(c: &mut Chance, kind: u32, s: &mut Vec<u8>) {
-    match c.below(12) {
-        0 => s[1] |= 0xe0 & c.next() as u8,
-        1 if kind == 2 => s[2] = c.next() as u8,
-        2 => s.extend((0..c.below(40)).map(|i| i as u8)),
-        3 => s.truncate(c.below(s.len() as u64 + 1) as usize),
-        4 => s[0] ^= 1,
-        5 => {
-            let at = c.below(s.len() as u64) as usize;
-            s[at] = c.next() as u8;
-        }
-        6 => s.resize(c.pick(&[511, 512, 513, 600]) as usize, 7),
-        _ => {}
-    }
-}
 
 fn put(out: &mut impl Write, n: u64) -> io::Result<()> {
     out.write_all(&n.to_le_bytes())
@@ -135,6 +86,34 @@ fn any_capture(c: &mut Chance, kind: u32, least: usize) -> Vec<u8> {
     capture
 }
 
+// A whole record in parts of 20 octets.
+fn put_pieces(capture: &mut Vec<u8>, c: &mut Chance, kind: u32) {
+    let (record, direction) = any_record(c, kind);
+    for s in pieces(kind, &record, direction, 20) {
+        capture.extend((s.len() as u16).to_le_bytes());
+        capture.extend(s);
+    }
+}
+
+// A capture of just so many octets: it ends with a notification, inside the length of one, or inside one.
+fn sized_capture(c: &mut Chance, size: usize, end: &str) -> Vec<u8> {
+    let kind = 1 + size as u32 % 6;
+    let cut: &[u8] = match end {
+        "length" => &[9],
+        "notification" => &[9, 0, 1],
+        _ => &[],
+    };
+    let mut capture = any_capture(c, kind, size - 5000);
+    while capture.len() + 510 < size {
+        put_pieces(&mut capture, c, kind);
+    }
+    let left = size - cut.len() - capture.len() - 2;
+    capture.extend((left as u16).to_le_bytes());
+    capture.resize(size - cut.len(), 0);
+    capture.extend(cut);
+    capture
+}
+
 fn list_case(out: &mut impl Write, c: &mut Chance, least: usize) -> io::Result<()> {
     let kind = 1 + c.below(6) as u32;
     let mut capture = any_capture(c, kind, least);
@@ -156,11 +135,7 @@ fn whole_capture(kind: u32) -> Vec<u8> {
     let mut capture = vec![kind as u8];
     loop {
         let before = capture.len();
-        let (record, direction) = any_record(&mut c, kind);
-        for s in pieces(kind, &record, direction, 20) {
-            capture.extend((s.len() as u16).to_le_bytes());
-            capture.extend(s);
-        }
+        put_pieces(&mut capture, &mut c, kind);
         if capture.len() > 65536 {
             capture.truncate(before);
             return capture;
@@ -202,6 +177,11 @@ fn cases(out: &mut impl Write, c: &mut Chance) -> io::Result<()> {
     for least in [4000, 30000, 65000] {
         list_case(out, c, least)?;
     }
+    for size in [65535, 65536, 65537] {
+        for end in ["whole", "length", "notification"] {
+            put_list(out, &sized_capture(c, size, end), c)?;
+        }
+    }
     for size in [0, 1, 65535, 65536, 65537, 70000] {
         let capture: Vec<u8> = (0..size).map(|i| if i == 0 { 5 } else { 0 }).collect();
         put_list(out, &capture, c)?;
@@ -215,15 +195,20 @@ fn main() -> io::Result<()> {
     let arguments: Vec<String> = std::env::args().skip(1).collect();
     let number = || arguments[1].parse().unwrap();
     match arguments.first().map(String::as_str) {
-        Some("capture") => {
-            let size = number();
-            out.write_all(&any_capture(&mut c, 1 + size % 6, size as usize)[..size as usize])
-        }
+        Some("capture") => match arguments[1].split_once('-') {
+            Some((size, end)) => out.write_all(&sized_capture(&mut c, size.parse().unwrap(), end)),
+            None => out.write_all(&any_capture(&mut c, 1 + number() % 6, number() as usize)[..number() as usize]),
+        },
         Some("whole") => out.write_all(&whole_capture(number())),
         Some("full") => {
             out.write_all(&[number() as u8])?;
             out.write_all(&full_record(number()))
         }
+        Some("calls") => scripts::calls(&mut out, &mut c),
+        Some("streams") => scripts::streams(&mut out, &mut c),
+        Some("losses") => losses::losses(&mut out, &mut c),
+        Some("forms") => forms::forms(&mut out, &mut c),
+        Some("replay") => replay::replay(&mut out),
         Some(_) => {
             let mut capture = vec![];
             io::stdin().read_to_end(&mut capture)?;

@@ -1,5 +1,6 @@
 // What the programs print with: text, numbers and octets on standard output. The kit has no model of an output, so what prints has no contract: it is safe and ends.
 use libc::STDOUT_FILENO;
+use record::octets::unsigned;
 use text::text::put_hex;
 ghost use mathlib.Core.Path.{_≡_};
 ghost use lib.ListN.{take};
@@ -12,6 +13,17 @@ pub fn print(text: &[u8]) {
 pub fn print_number(label: &[u8], n: u64) {
     io::write_all(STDOUT_FILENO, label);
     io::print_decimal(STDOUT_FILENO, n);
+}
+
+// A signed number behind its label, the negative ones after `-`.
+pub fn print_signed(label: &[u8], z: i16) {
+    let bits = unsigned(z) as u64;
+    if z < 0 {
+        print(label);
+        print_number(b"-", 65536 - bits);
+    } else {
+        print_number(label, bits);
+    }
 }
 
 // An octet as two digits in capitals, behind a space.

@@ -1,9 +1,9 @@
 // Numbers and the Feature value from octets and back.
 use crate::printing::print_refusal;
-use crate::printing::print_signed;
 use output::print;
 use output::print_number;
 use output::print_octets;
+use output::print_signed;
 use record::feature::Feature;
 use record::feature::FeatureAnswer;
 use record::octets::s16_at;

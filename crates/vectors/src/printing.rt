@@ -1,7 +1,6 @@
 // What the cases print, and the buffers that are lent.
 use output::print;
 use output::print_number;
-use record::octets::unsigned;
 use record::refusal::Refusal;
 
 // The octets of every buffer that is lent here; each part that is run is shorter.
@@ -12,17 +11,6 @@ pub const UNTOUCHED: u8 = 0xAA;
 
 pub fn print_u16(label: &[u8], n: u16) {
     print_number(label, n as u64);
-}
-
-// A signed number behind its label, the negative ones after `-`.
-pub fn print_signed(label: &[u8], z: i16) {
-    let bits = unsigned(z) as u64;
-    if z < 0 {
-        print(label);
-        print_number(b"-", 65536 - bits);
-    } else {
-        print_number(label, bits);
-    }
 }
 
 // One of two texts, by a test.

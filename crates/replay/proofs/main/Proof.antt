@@ -1,0 +1,27 @@
+-- `main` is safe and ends: the measure is the number of turns left. Assumes nothing.
+use borrow.Author.Needs.{needs}
+use Rattle.replay.proofs.main.Statement.{statement}
+use Rattle.replay.proofs.main.Tie as tie
+
+abbrev Inv-loop : tie.InvT-loop
+Inv-loop line₀ replay₀ turns₀ line replay turns =
+    Unit {0}
+
+abbrev μ-loop : tie.MeasureT-loop
+μ-loop line₀ replay₀ turns₀ line replay turns =
+    turns
+
+pub main-spec : {M : Type 1} → statement M
+main-spec =
+    tie.close
+    (tie.spec
+    Inv-loop
+    μ-loop
+    (λ c κs. search needs)
+    (λ c. search needs)
+    (λ c κs. search needs)
+    (λ c. search needs)
+    (λ c. search needs)
+    (λ c. search needs)
+    (λ c. search needs)
+    (λ c. search needs))

@@ -1,0 +1,213 @@
+// The control point once more, written from document 01 alone.
+use super::Width::{self, *};
+use std::collections::BTreeMap;
+
+#[derive(Clone, Copy, PartialEq, Debug)]
+pub enum Mode {
+    Stopped,
+    Running,
+    Paused,
+}
+
+#[derive(Clone, Copy, Default)]
+pub struct Client {
+    pub connected: bool,
+    pub indicating: bool,
+}
+
+// The ranges of op codes 02 to 06 (speed, inclination, resistance, power, heart rate), each its least value and its greatest.
+pub type Ranges = [(i64, i64); 5];
+
+pub struct Console {
+    pub features: u32,
+    pub targets: u32,
+    pub ranges: Ranges,
+    pub clients: [Client; 4],
+    pub awaited: Option<u8>,
+    pub holder: Option<u8>,
+    pub mode: Mode,
+    pub settings: BTreeMap<u8, Vec<u8>>,
+}
+
+// What a call that is not refused gives.
+#[derive(Default)]
+pub struct Given {
+    pub response: Vec<u8>,
+    pub status: Vec<u8>,
+}
+
+// "Op codes and parameters"
+fn parameter(op: u8) -> Option<Vec<Width>> {
+    match op {
+        0x00 | 0x01 | 0x07 => Some(vec![]),
+        0x04 | 0x06 | 0x08 => Some(vec![U8]),
+        0x03 | 0x05 => Some(vec![S16]),
+        0x02 | 0x09 | 0x0A | 0x0B | 0x0D | 0x12 | 0x14 => Some(vec![U16]),
+        0x0C => Some(vec![U24]),
+        0x0E => Some(vec![U16; 2]),
+        0x0F => Some(vec![U16; 3]),
+        0x10 => Some(vec![U16; 5]),
+        0x11 => Some(vec![S16, S16, U8, U8]),
+        _ => None,
+    }
+}
+
+pub fn parameter_length(op: u8) -> Option<usize> {
+    parameter(op).map(|widths| widths.iter().map(|width| super::octets(*width)).sum())
+}
+
+// "02 to 06 need target bits 0 to 4, 09 to 12 need 5 to 14, 14 needs 16."
+fn needed_bit(op: u8) -> Option<u8> {
+    match op {
+        0x02..=0x06 => Some(op - 0x02),
+        0x09..=0x12 => Some(op - 0x09 + 5),
+        0x14 => Some(16),
+        _ => None,
+    }
+}
+
+// What stands at first, and where an opening was refused with no target setting and every range at 0.
+fn first(features: u32, targets: u32, ranges: Ranges) -> Console {
+    let stores = (0..=0x14).filter(|op| needed_bit(*op).is_some());
+    Console {
+        features,
+        targets,
+        ranges,
+        clients: [Client::default(); 4],
+        awaited: None,
+        holder: None,
+        mode: Mode::Stopped,
+        settings: stores.map(|op| (op, vec![0; parameter_length(op).unwrap()])).collect(),
+    }
+}
+
+// "opening a machine 22, 16"
+pub fn open(feature: &[u8], ranges: Ranges) -> (Result<Given, u64>, Console) {
+    let closed = || first(0, 0, [(0, 0); 5]);
+    if feature.len() != 8 {
+        return (Err(22), closed());
+    }
+    if ranges.iter().any(|(least, greatest)| least > greatest) {
+        return (Err(16), closed());
+    }
+    let named = |at: usize| super::number(&feature[at..at + 4], false) as u32 & 0x1FFFF;
+    (Ok(Given::default()), first(named(0), named(4), ranges))
+}
+
+impl Console {
+    // "connect, disconnect and indications 10, 17"
+    fn known(&self, client: u8, connected: bool) -> Result<usize, u64> {
+        if client > 3 {
+            return Err(10);
+        }
+        if self.clients[client as usize].connected != connected {
+            return Err(17);
+        }
+        Ok(client as usize)
+    }
+
+    pub fn connect(&mut self, client: u8) -> Result<Given, u64> {
+        let at = self.known(client, false)?;
+        self.clients[at] = Client { connected: true, indicating: false };
+        Ok(Given::default())
+    }
+
+    pub fn disconnect(&mut self, client: u8) -> Result<Given, u64> {
+        let at = self.known(client, true)?;
+        self.clients[at] = Client::default();
+        self.holder = self.holder.filter(|holder| *holder != client);
+        self.awaited = self.awaited.filter(|awaited| *awaited != client);
+        Ok(Given::default())
+    }
+
+    pub fn indicate(&mut self, client: u8, on: bool) -> Result<Given, u64> {
+        let at = self.known(client, true)?;
+        self.clients[at].indicating = on;
+        Ok(Given::default())
+    }
+
+    pub fn confirm(&mut self, client: u8) -> Result<Given, u64> {
+        self.known(client, true)?;
+        if self.awaited != Some(client) {
+            return Err(21);
+        }
+        self.awaited = None;
+        Ok(Given::default())
+    }
+
+    pub fn write(&mut self, client: u8, octets: &[u8]) -> Result<Given, u64> {
+        let at = self.known(client, true)?;
+        let (op, p) = octets.split_first().ok_or(18u64)?;
+        if !self.clients[at].indicating {
+            return Err(19);
+        }
+        if self.awaited.is_some() {
+            return Err(20);
+        }
+        let result = self.result(client, *op, p);
+        let status = if result == 1 { self.succeed(client, *op, p) } else { vec![] };
+        self.awaited = Some(client);
+        Ok(Given { response: vec![0x80, *op, result], status })
+    }
+
+    // "unsupported op code, result 02; not the holder (but for 00), 05; wrong length, value outside its range or 08 with neither 1 nor 2, result 03; then 04 ..; else 01"
+    fn result(&self, client: u8, op: u8, p: &[u8]) -> u8 {
+        let length = match parameter_length(op) {
+            Some(length) if needed_bit(op).map_or(true, |bit| self.targets >> bit & 1 == 1) => length,
+            _ => return 2,
+        };
+        if op != 0 && self.holder != Some(client) {
+            return 5;
+        }
+        if p.len() != length || !self.within(op, p) {
+            return 3;
+        }
+        let fails = match op {
+            0x00 => self.holder.map_or(false, |holder| holder != client),
+            0x07 => self.mode == Mode::Running,
+            0x08 if p[0] == 1 => self.mode == Mode::Stopped,
+            0x08 => self.mode != Mode::Running,
+            _ => false,
+        };
+        if fails { 4 } else { 1 }
+    }
+
+    fn within(&self, op: u8, p: &[u8]) -> bool {
+        match op {
+            0x02..=0x06 => {
+                let value = super::number(p, op == 0x03 || op == 0x05);
+                let (least, greatest) = self.ranges[op as usize - 2];
+                least <= value && value <= greatest
+            }
+            0x08 => p[0] == 1 || p[0] == 2,
+            _ => true,
+        }
+    }
+
+    // Does what success does, and gives the status octets.
+    fn succeed(&mut self, client: u8, op: u8, p: &[u8]) -> Vec<u8> {
+        match op {
+            0x00 => self.holder = Some(client),
+            0x01 => {
+                self.settings.values_mut().for_each(|setting| setting.fill(0));
+                self.mode = Mode::Stopped;
+                self.holder = None;
+            }
+            0x07 => self.mode = Mode::Running,
+            0x08 => self.mode = if p[0] == 1 { Mode::Stopped } else { Mode::Paused },
+            _ => {
+                self.settings.insert(op, p.to_vec());
+            }
+        }
+        let first = match op {
+            0x00 => return vec![],
+            0x01 => 0x01,
+            0x07 => 0x04,
+            0x08 => 0x02,
+            0x02..=0x06 => op + 3,
+            0x09..=0x12 => op + 1,
+            _ => 0x15,
+        };
+        [&[first], p].concat()
+    }
+}
