@@ -1,5 +1,5 @@
 // Records and damage by chance, from a fixed seed.
-use crate::rules::{group_octets, layout, Groups};
+use crate::rules::{group_octets, layout, set_of, Groups};
 
 // Numbers from a fixed seed.
 pub struct Chance(pub u64);
@@ -27,29 +27,38 @@ fn any_octets(c: &mut Chance, count: usize) -> Vec<u8> {
     (0..count).map(|_| if c.below(4) == 0 { c.pick(&[0, 127, 128, 255]) as u8 } else { c.next() as u8 }).collect()
 }
 
-// A record with these optional groups, and its direction.
-pub fn record_with(c: &mut Chance, kind: u32, set: u32) -> (Groups, u32) {
+// A record with the groups whose bits are told, and its direction.
+fn record_of(c: &mut Chance, kind: u32, mut is_present: impl FnMut(&mut Chance, usize) -> bool) -> (Groups, u32) {
     let mut groups = Groups::new();
-    for (bit, group) in layout(kind).iter().enumerate().filter(|(bit, _)| *bit == 0 || set >> bit & 1 == 1) {
-        groups.insert(bit, any_octets(c, group_octets(group)));
+    for (bit, group) in layout(kind).iter().enumerate() {
+        let present = is_present(c, bit);
+        if bit == 0 || present {
+            groups.insert(bit, any_octets(c, group_octets(group)));
+        }
     }
     (groups, if kind == 2 { c.below(2) as u32 } else { 0 })
 }
 
-// Some optional groups of a kind: all, none, one or any.
-pub fn any_set(c: &mut Chance, kind: u32) -> u32 {
-    let listed = (1 << layout(kind).len()) - 2;
-    match c.below(8) {
-        0 => listed,
-        1 => 0,
-        2 => listed & 1 << c.below(15),
-        _ => listed & c.next() as u32,
-    }
+// A record with these optional groups.
+pub fn record_with(c: &mut Chance, kind: u32, set: u32) -> (Groups, u32) {
+    record_of(c, kind, |_, bit| set >> bit & 1 == 1)
 }
 
+// A record with all optional groups, none, one or any.
 pub fn any_record(c: &mut Chance, kind: u32) -> (Groups, u32) {
-    let set = any_set(c, kind);
-    record_with(c, kind, set)
+    let how = c.below(8);
+    let alone = c.below(15) as usize;
+    record_of(c, kind, |c, bit| match how {
+        0 => true,
+        1 => false,
+        2 => bit == alone,
+        _ => c.below(2) == 1,
+    })
+}
+
+// Some optional groups of a kind, in the same ways.
+pub fn any_set(c: &mut Chance, kind: u32) -> u32 {
+    set_of(&any_record(c, kind).0)
 }
 
 // Reserved bits set, octets added behind, cut short, More Data turned, an octet changed, or left as it is.

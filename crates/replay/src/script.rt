@@ -1,4 +1,11 @@
-// A script: its lines, one after the other, on one console and one collection.
+// A script: its lines, one after the other, on one console and one collection. A line is a word, and octets in hex; numbers have their least octet first.
+//   machine        the ranges (speed, inclination, resistance, power: least and greatest in two octets each; heart rate: in one each), then the Feature value
+//   connect, disconnect, on, off, confirm    a client
+//   write          a client, then the octets that it writes
+//   setting        an op code: what it stores
+//   open           a kind;    fixed    a kind and the told set in four octets
+//   notification   its octets
+//   split          kind, groups in four octets, direction, payload in four, part in four, room in two, then each of the 31 fields in four
 use crate::collections::print_collected;
 use crate::collections::print_collection;
 use crate::collections::print_opening;
