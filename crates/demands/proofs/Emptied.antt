@@ -5,18 +5,18 @@ use mathlib.Core.Path.{_≡_, refl, sym, ap, ap₂, _∙_}
 use mathlib.Core.Bool.{Bool, true, false, cond, not}
 use mathlib.Core.List.{List}
 use native.Mathlib.Omega.{arith}
-use lib.Bits.{bitOr}
 use lib.Dec.{eqb, leb}
 use Rattle.record.specs.declared.notification.Part.{Part}
 use Rattle.record.specs.declared.record.Record.{Record}
 use Rattle.record.specs.Answer.{Answer, given}
 use Rattle.record.specs.Answer as Answer
-use Rattle.record.specs.Notification.{part-of, joined}
-use Rattle.record.specs.Record.{of-wire}
+use Rattle.record.specs.Notification.{part-of}
 use Rattle.record.proofs.Tests.{leb-true, leb-false}
 use Rattle.service.specs.declared.collector.Told.{Told}
 use Rattle.service.specs.declared.collector.Collection.{Collection}
-use Rattle.service.specs.Collector.{Said, waiting, handed, refused, Stepped, zeros, collection, empty, drops, outside, incomplete, refuses, joins, answers-to, collect}
+use Rattle.service.specs.Collector.{Said, waiting, handed, refused, Stepped, empty, drops, outside, refuses, joins, answers-to, collect}
+use Rattle.service.proofs.Said.{tag}
+use Rattle.service.proofs.Joining.{by-cases}
 use Rattle.demands.specs.Demands.{Reached, at-first, then, Empty, opened, after-record, after-refusal as refusing}
 use Rattle.demands.proofs.Pieces.{collector}
 
@@ -33,12 +33,7 @@ record Leaves (c : Collection) (x : Stepped) : Type 0 where
 apart : {A : Type 0} {a b : Said} (f : Said → ℕ) → a ≡ b → (f a ≡ f b → ⊥) → A
 apart f e n = absurd (n (ap f e))
 
--- the case of an answer, and the number of a refusal
-abbrev tag : Said → ℕ
-tag (waiting d) = 0
-tag (handed r d) = 1
-tag (refused n d) = 2
-
+-- the number of a refusal, and the flag of an answer
 abbrev number-in : Said → ℕ
 number-in (waiting d) = 0
 number-in (handed r d) = 0
@@ -72,40 +67,27 @@ module _ (c : Collection) where
       told-after true = refl
       told-after false = refl
 
-  -- a part that joins, by whether it is the last and whether the told set is lacking
-  joined-as : Part → List ℕ → Bool → Bool → Bool → Stepped
-  joined-as p s dropped last lacking =
-      let held : ℕ = bitOr (cond dropped 0 (c .held)) (p .groups) in
-      let v : List ℕ = joined (c .kind) s (cond dropped zeros (c .numbers)) in
-      cond last
-      (cond lacking (refuses c 34)
-      (record { said = handed (of-wire (c .kind) held (p .direction) v) dropped; next = empty (c .kind) (c .told) }))
-      (record { said = waiting dropped; next = collection (c .kind) (c .told) held v })
-
-  leaves-joined : (p : Part) (s : List ℕ) (dropped last lacking : Bool) → Leaves c (joined-as p s dropped last lacking)
-  unfolding joined-as
-  leaves-joined p s dropped true true = leaves-refusal 34
-  leaves-joined p s dropped true false = record {
-    same-kind = refl;
-    same-told = refl;
-    after-handed = λ r d e. refl;
-    after-refused = λ n d h e. refl;
-    stays = λ n d h e. apart tag e (λ z. omega arith);
-    flagged = λ n d e. apart tag e (λ z. omega arith);
-  }
-  leaves-joined p s dropped false lacking = record {
-    same-kind = refl;
-    same-told = refl;
-    after-handed = λ r d e. apart tag e (λ z. omega arith);
-    after-refused = λ n d h e. apart tag e (λ z. omega arith);
-    stays = λ n d h e. apart tag e (λ z. omega arith);
-    flagged = λ n d e. apart tag e (λ z. omega arith);
-  }
-
   leaves-part : (p : Part) (s : List ℕ) (b dropped : Bool) → Leaves c (cond b (refuses c 33) (joins c p s dropped))
-  unfolding joins joined-as
   leaves-part p s true dropped = leaves-refusal 33
-  leaves-part p s false dropped = leaves-joined p s dropped (p .last) (incomplete (c .told) (bitOr (cond dropped 0 (c .held)) (p .groups)))
+  leaves-part p s false dropped =
+      by-cases c p s dropped (Leaves c)
+      (λ l. record {
+        same-kind = refl;
+        same-told = refl;
+        after-handed = λ r d e. apart tag e (λ z. omega arith);
+        after-refused = λ n d h e. apart tag e (λ z. omega arith);
+        stays = λ n d h e. apart tag e (λ z. omega arith);
+        flagged = λ n d e. apart tag e (λ z. omega arith);
+      })
+      (leaves-refusal 34)
+      (λ l. record {
+        same-kind = refl;
+        same-told = refl;
+        after-handed = λ r d e. refl;
+        after-refused = λ n d h e. refl;
+        stays = λ n d h e. apart tag e (λ z. omega arith);
+        flagged = λ n d e. apart tag e (λ z. omega arith);
+      })
 
   leaves-answer : (a : Answer Part) (s : List ℕ) → Leaves c (answers-to c a s)
   leaves-answer (Answer.refused n) s = leaves-refusal n

@@ -4,7 +4,6 @@ use mathlib.Core.Path.{_≡_, refl, sym, ap, _∙_, subst}
 use mathlib.Core.Bool.{Bool, true, false, cond, true≢false}
 use mathlib.Core.List.{List}
 use native.Mathlib.Omega.{arith}
-use lib.Bits.{bitOr}
 use lib.Dec.{eqb, leb}
 use lib.ListN.{getD}
 use Rattle.record.specs.declared.notification.Part.{Part}
@@ -12,8 +11,7 @@ use Rattle.record.specs.declared.record.Record.{Record}
 use Rattle.record.specs.Answer.{Answer, given}
 use Rattle.record.specs.Answer as Answer
 use Rattle.record.specs.Groups.{has, known, listed, optional}
-use Rattle.record.specs.Notification.{flags-of, names, heading, part-of, values, joined}
-use Rattle.record.specs.Record.{of-wire}
+use Rattle.record.specs.Notification.{flags-of, names, heading, part-of}
 use Rattle.record.proofs.Clean.{Clean, clean-zeros}
 use Rattle.record.proofs.Joined.{held-even, held-listed, clean-waiting, formed-last}
 use Rattle.record.proofs.Sets.{Sub, has-empty}
@@ -21,7 +19,9 @@ use Rattle.record.proofs.Tests.{eqb-eq, eqb-ne}
 use Rattle.record.proofs.Tolerance.{part-is}
 use Rattle.service.specs.declared.collector.Told.{Told}
 use Rattle.service.specs.declared.collector.Collection.{Collection}
-use Rattle.service.specs.Collector.{Said, waiting, handed, refused, Stepped, zeros, collection, empty, drops, outside, incomplete, refuses, joins, answers-to, collect}
+use Rattle.service.specs.Collector.{Stepped, handed, zeros, empty, drops, outside, refuses, joins, answers-to, collect}
+use Rattle.service.proofs.Said.{tag, same-record}
+use Rattle.service.proofs.Joining.{by-cases}
 use Rattle.demands.specs.Demands.{Good}
 use Rattle.demands.proofs.Samples.{good}
 
@@ -50,14 +50,6 @@ record Tidied (x : Stepped) : Type 0 where
   next-tidy : Tidy (x .next)
   hands-good : (r : Record) (d : Bool) → x .said ≡ handed r d → Good r
 
-abbrev tag : Said → ℕ
-tag (waiting d) = 0
-tag (handed r d) = 1
-tag (refused n d) = 2
-
-same-handed : (r s : Record) (d e : Bool) → handed r d ≡ handed s e → r ≡ s
-same-handed r s d e h = cc
-
 -- ---- a step
 
 module _ (c : Collection) (t : Tidy c) (s : List ℕ) (octets : (i : ℕ) → getD s i 0 < 256) where
@@ -84,33 +76,18 @@ module _ (c : Collection) (t : Tidy c) (s : List ℕ) (octets : (i : ℕ) → ge
   left-clean true = clean-zeros (c .kind)
   left-clean false = t .clean
 
-  -- a part, by whether it is the last and whether the told set is lacking
-  joined-as : ℕ → ℕ → Bool → Bool → Bool → Stepped
-  joined-as groups direction dropped last lacking =
-      let held : ℕ = bitOr (cond dropped 0 (c .held)) groups in
-      let v : List ℕ = joined (c .kind) s (cond dropped zeros (c .numbers)) in
-      cond last
-      (cond lacking (refuses c 34)
-      (record { said = handed (of-wire (c .kind) held direction v) dropped; next = empty (c .kind) (c .told) }))
-      (record { said = waiting dropped; next = collection (c .kind) (c .told) held v })
-
-  tidied-joined : (dropped last lacking : Bool) → eqb (flags-of (c .kind) s % 2) 0 ≡ last →
-      Tidied (joined-as (optional (names (c .kind) (flags-of (c .kind) s))) (heading (c .kind) (flags-of (c .kind) s)) dropped last lacking)
-  unfolding joined-as
-  tidied-joined dropped true true e = tidied-refusal 34
-  tidied-joined dropped true false e = record {
-    next-tidy = tidy-empty (c .kind) (c .told) (t .kind-known);
-    hands-good = λ r d h.
-        subst Good (same-handed _ r dropped d h)
-        (let f = formed-last (c .kind) (t .kind-known) s octets (cond dropped 0 (c .held)) (cond dropped zeros (c .numbers)) (left-even dropped) (left-inside dropped)
-        (left-clean dropped) (eqb-eq (flags-of (c .kind) s % 2) 0 e) in
-        good (c .kind) _ _ _ (f .0) (f .1));
-  }
-  tidied-joined dropped false lacking e =
-      let n : flags-of (c .kind) s % 2 ≡ 0 → ⊥ = eqb-ne (flags-of (c .kind) s % 2) 0 e in
-      let m : flags-of (c .kind) s % 2 ≡ 1 = omega arith in
+  -- a part that joins, as its flags name it
+  tidied-joined : (dropped : Bool) →
+      let p : Part = record { groups = optional (names (c .kind) (flags-of (c .kind) s)); last = eqb (flags-of (c .kind) s % 2) 0; direction = heading (c .kind) (flags-of (c .kind) s) } in
+      Tidied (joins c p s dropped)
+  tidied-joined dropped =
+      let p : Part = record { groups = optional (names (c .kind) (flags-of (c .kind) s)); last = eqb (flags-of (c .kind) s % 2) 0; direction = heading (c .kind) (flags-of (c .kind) s) } in
       let S : ℕ = cond dropped 0 (c .held) in
       let v : List ℕ = cond dropped zeros (c .numbers) in
+      by-cases c p s dropped Tidied
+      (λ e.
+      let n : flags-of (c .kind) s % 2 ≡ 0 → ⊥ = eqb-ne (flags-of (c .kind) s % 2) 0 e in
+      let m : flags-of (c .kind) s % 2 ≡ 1 = omega arith in
       record {
         next-tidy = record {
           kind-known = t .kind-known;
@@ -119,15 +96,19 @@ module _ (c : Collection) (t : Tidy c) (s : List ℕ) (octets : (i : ℕ) → ge
           clean = clean-waiting (c .kind) (t .kind-known) s octets S v (left-even dropped) (left-inside dropped) (left-clean dropped) m;
         };
         hands-good = λ r d h. absurd (let z : _≡_ {A = ℕ} 0 1 = ap tag h in omega arith);
-      }
+      })
+      (tidied-refusal 34)
+      (λ e. record {
+        next-tidy = tidy-empty (c .kind) (c .told) (t .kind-known);
+        hands-good = λ r d h.
+            subst Good (same-record _ r dropped d h)
+            (let f = formed-last (c .kind) (t .kind-known) s octets S v (left-even dropped) (left-inside dropped) (left-clean dropped) (eqb-eq (flags-of (c .kind) s % 2) 0 e) in
+            good (c .kind) _ _ _ (f .0) (f .1));
+      })
 
   tidied-part : (p : Part) → part-of (c .kind) s ≡ given p → (b dropped : Bool) → Tidied (cond b (refuses c 33) (joins c p s dropped))
-  unfolding joins joined-as
   tidied-part p e true dropped = tidied-refusal 33
-  tidied-part p e false dropped =
-      subst (λ (q : Part). Tidied (joins c q s dropped)) (sym (part-is (c .kind) s p e))
-      (tidied-joined dropped (eqb (flags-of (c .kind) s % 2) 0)
-      (incomplete (c .told) (bitOr (cond dropped 0 (c .held)) (optional (names (c .kind) (flags-of (c .kind) s))))) refl)
+  tidied-part p e false dropped = subst (λ (q : Part). Tidied (joins c q s dropped)) (sym (part-is (c .kind) s p e)) (tidied-joined dropped)
 
   tidied-answer : (a : Answer Part) → part-of (c .kind) s ≡ a → Tidied (answers-to c a s)
   tidied-answer (Answer.refused n) e = tidied-refusal n

@@ -1,9 +1,7 @@
 -- No second answer and no second state meets the collector's contracts.
 use Prim.Native.Nat.{ℕ}
 use mathlib.Core.Path.{_≡_, refl, sym, ap, ap₂, _∙_}
-use mathlib.Core.Bool.{Bool}
 use native.Mathlib.Omega.{arith}
-use Rattle.record.specs.declared.record.Record.{Record}
 use Rattle.record.specs.Refusal.{number-of}
 use Rattle.record.proofs.Once.{Once}
 use Rattle.record.proofs.Once.{number-same, never}
@@ -14,38 +12,17 @@ use Rattle.service.specs.declared.collector.Collected.the-variants as an
 use Rattle.service.specs.declared.collector.Opening.{Opening}
 use Rattle.service.specs.declared.collector.Opening.the-variants as openings
 use Rattle.service.specs.declared.collector.Opened.{Opened}
-use Rattle.service.specs.Collector.{Said, waiting, handed, refused, meant, meant-opening}
+use Rattle.service.specs.Collector.{Said, meant, meant-opening}
+use Rattle.service.proofs.Said.{tag, same-waiting, same-record, same-dropped, same-number, same-refused}
 use Rattle.service.proofs.collector.open.Reads as open-reads
 use Rattle.service.proofs.collector.collect.Reads as collect-reads
 
 -- ---- the meaning of an answer is the answer
 
--- the case of a meaning
-tag : Said → ℕ
-tag (waiting d) = 0
-tag (handed r d) = 1
-tag (refused n d) = 2
-
 apart : {a b : Said} → a ≡ b → tag a ≡ tag b
 apart e = ap tag e
 
-same-waiting : (d e : Bool) → waiting d ≡ waiting e → d ≡ e
-same-waiting d e h = cc
-
-same-record : (r s : Record) (d e : Bool) → handed r d ≡ handed s e → r ≡ s
-same-record r s d e h = cc
-
-same-dropped : (r s : Record) (d e : Bool) → handed r d ≡ handed s e → d ≡ e
-same-dropped r s d e h = cc
-
-same-number : (m n : ℕ) (d e : Bool) → refused m d ≡ refused n e → m ≡ n
-same-number m n d e h = cc
-
-same-refused : (m n : ℕ) (d e : Bool) → refused m d ≡ refused n e → d ≡ e
-same-refused m n d e h = cc
-
 collected-meant : (x y : Collected) → meant x ≡ meant y → x ≡ y
-unfolding tag
 collected-meant (answers.Waiting d) (answers.Waiting e) h = ap answers.Waiting (same-waiting d e h)
 collected-meant (answers.Waiting d) (answers.Record s e) h = absurd (omega (arith, apart h))
 collected-meant (answers.Waiting d) (answers.Refused n e) h = absurd (omega (arith, apart h))

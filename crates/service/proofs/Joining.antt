@@ -1,6 +1,6 @@
 -- What a part does to a collection, case by case.
 use Prim.Native.Nat.{ℕ}
-use mathlib.Core.Path.{_≡_, refl, ap}
+use mathlib.Core.Path.{_≡_, refl, sym, ap, subst}
 use mathlib.Core.Bool.{Bool, true, false, cond}
 use mathlib.Core.List.{List}
 use lib.Bits.{bitOr}
@@ -11,7 +11,7 @@ use Rattle.record.specs.Notification.{part-of, joined, held-after}
 use Rattle.record.specs.Record.{of-wire}
 use Rattle.service.specs.declared.collector.Collection.{Collection}
 use Rattle.service.specs.declared.collector.Told.{Told}
-use Rattle.service.specs.Collector.{waiting, handed, zeros, collection, empty, incomplete, outside, drops, after-refusal, refuses, joins, collect}
+use Rattle.service.specs.Collector.{Stepped, waiting, handed, zeros, collection, empty, incomplete, outside, drops, after-refusal, refuses, joins, collect}
 
 -- the numbers after a notification that is read
 pub read-joins : (kind : ℕ) (s v : List ℕ) (p : Part) → part-of kind s ≡ given p → held-after kind s v ≡ joined kind s v
@@ -37,6 +37,19 @@ module _ (c : Collection) (p : Part) (s : List ℕ) (dropped : Bool) where
       joins c p s dropped ≡ record { said = handed (of-wire (c .kind) held-now (p .direction) numbers-now) dropped; next = empty (c .kind) (c .told) }
   unfolding joins
   hands l i = rw (l, i)
+
+  -- what holds of each case holds of the step
+  pub by-cases : (P : Stepped → Type 0) →
+      (p .last ≡ false → P (record { said = waiting dropped; next = collection (c .kind) (c .told) held-now numbers-now })) →
+      P (refuses c 34) →
+      (p .last ≡ true → P (record { said = handed (of-wire (c .kind) held-now (p .direction) numbers-now) dropped; next = empty (c .kind) (c .told) })) →
+      P (joins c p s dropped)
+  by-cases P waits-on is-lacking hands-out = go (p .last) (incomplete (c .told) held-now) refl refl
+    where
+      go : (last missing : Bool) → p .last ≡ last → incomplete (c .told) held-now ≡ missing → P (joins c p s dropped)
+      go false missing l i = subst P (sym (waits l)) (waits-on l)
+      go true true l i = subst P (sym (lacks l i)) is-lacking
+      go true false l i = subst P (sym (hands l i)) (hands-out l)
 
 -- the collection after a refusal, by the held groups and the numbers after it
 pub refused-after : (k : ℕ) (t : Told) (h : ℕ) (v : List ℕ) (n : ℕ) →

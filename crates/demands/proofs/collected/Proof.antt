@@ -10,6 +10,7 @@ use Rattle.record.specs.Record.{wire}
 use Rattle.record.specs.Split.{part-octets}
 use Rattle.record.proofs.Records.{formed-in-types}
 use Rattle.service.specs.Collector.{waiting, handed, refused, meant, collect}
+use Rattle.service.proofs.Said.{same-record}
 use Rattle.demands.specs.Demands.{Good, count}
 use Rattle.demands.proofs.ComingBack.{Left, left-all, Next, comes-home, waits-on, next, count-most}
 use Rattle.demands.proofs.collected.Statement.{statement}
@@ -57,9 +58,6 @@ the-next c =
     let l = c .before .before in
     let a = l .before .before .before .args in next (a .«record») (a .payload) (l .loop .part) (l .loop .collection) (l .loop .inv)
 
-same-handed : (r s : Record) (d e : Bool) → handed r d ≡ handed s e → r ≡ s
-same-handed r s d e h = cc
-
 not-handed : {A : Type 0} (r : Record) (d e : Bool) → waiting d ≡ handed r e → A
 not-handed r d e h = let z : _≡_ {A = ℕ} 0 1 = cc in absurd (omega arith)
 
@@ -75,7 +73,7 @@ returns c =
     let d = w .before .before in
     let s = sym (ap meant (w .answer .given .1)) ∙ d .deliver .ensures .0 in
     elim (the-next d) [
-      | comes-home h ↦ ap given (same-handed _ _ _ _ (s ∙ h))
+      | comes-home h ↦ ap given (same-record _ _ _ _ (s ∙ h))
       | waits-on h k ↦ not-handed _ _ _ (sym (s ∙ h))
     ]
 
