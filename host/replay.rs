@@ -1,6 +1,6 @@
 // What the program `replay` must print for a script on standard input, by the rules of document 01.
 use crate::rules::control::{self, Client, Console, Given, Mode};
-use crate::rules::{set_of, values, Answer, Collection, Typed};
+use crate::rules::{names, set_of, values, Answer, Collection, Typed};
 use std::io::{self, Write};
 
 fn octets_of(line: &str) -> Vec<u8> {
@@ -70,7 +70,8 @@ fn collected(kind: u32, answer: &Result<Answer, u64>, dropped: bool) -> String {
     let said = match answer {
         Ok(Answer::Waiting) => "waiting".into(),
         Ok(Answer::Record(groups, direction)) => {
-            format!("record kind={kind} groups={} direction={direction} fields:{}", set_of(groups), spaced(values(kind, groups, true)))
+            let fields = spaced(names().iter().zip(values(kind, groups, true)).map(|(name, x)| format!("{name}={x}")));
+            format!("record kind={kind} groups={} direction={direction} fields:{fields}", set_of(groups))
         }
         Err(refusal) => format!("refused={refusal}"),
     };

@@ -47,41 +47,41 @@ pub(crate) fn print_opening(answer: Opening) {
 
 // The fields of a record by their names, in the order of the table: to begin with, those up to energy.
 fn print_first_fields(r: Record) {
-    print_u16(b" ", r.speed);
-    print_u16(b" ", r.climb.floors);
-    print_u16(b" ", r.climb.steps);
-    print_u8(b" ", r.stroke.rate);
-    print_u16(b" ", r.stroke.count);
-    print_u16(b" ", r.average_speed);
-    print_u32(b" ", r.distance);
-    print_signed(b" ", r.slope.inclination.0);
-    print_signed(b" ", r.slope.ramp_angle.0);
-    print_u16(b" ", r.gain.positive);
-    print_u16(b" ", r.gain.negative);
-    print_u16(b" ", r.pace);
-    print_u16(b" ", r.average_pace);
-    print_u16(b" ", r.energy.total);
-    print_u16(b" ", r.energy.per_hour);
-    print_u8(b" ", r.energy.per_minute);
+    print_u16(b" speed=", r.speed);
+    print_u16(b" floors=", r.climb.floors);
+    print_u16(b" steps=", r.climb.steps);
+    print_u8(b" stroke_rate=", r.stroke.rate);
+    print_u16(b" stroke_count=", r.stroke.count);
+    print_u16(b" average_speed=", r.average_speed);
+    print_u32(b" distance=", r.distance);
+    print_signed(b" inclination=", r.slope.inclination.0);
+    print_signed(b" ramp_angle=", r.slope.ramp_angle.0);
+    print_u16(b" positive_gain=", r.gain.positive);
+    print_u16(b" negative_gain=", r.gain.negative);
+    print_u16(b" pace=", r.pace);
+    print_u16(b" average_pace=", r.average_pace);
+    print_u16(b" total_energy=", r.energy.total);
+    print_u16(b" energy_per_hour=", r.energy.per_hour);
+    print_u8(b" energy_per_minute=", r.energy.per_minute);
 }
 
 // Those behind energy.
 fn print_other_fields(r: Record) {
-    print_u8(b" ", r.heart_rate);
-    print_u8(b" ", r.metabolic_equivalent);
-    print_u16(b" ", r.elapsed);
-    print_u16(b" ", r.remaining);
-    print_signed(b" ", r.force.belt);
-    print_signed(b" ", r.force.power_output);
-    print_u16(b" ", r.step_rates.rate);
-    print_u16(b" ", r.step_rates.average);
-    print_u16(b" ", r.stride_count);
-    print_signed(b" ", r.resistance);
-    print_signed(b" ", r.power);
-    print_signed(b" ", r.average_power);
-    print_u8(b" ", r.average_stroke_rate);
-    print_u16(b" ", r.cadence);
-    print_u16(b" ", r.average_cadence);
+    print_u8(b" heart_rate=", r.heart_rate);
+    print_u8(b" metabolic_equivalent=", r.metabolic_equivalent);
+    print_u16(b" elapsed=", r.elapsed);
+    print_u16(b" remaining=", r.remaining);
+    print_signed(b" belt_force=", r.force.belt);
+    print_signed(b" power_output=", r.force.power_output);
+    print_u16(b" step_rate=", r.step_rates.rate);
+    print_u16(b" average_step_rate=", r.step_rates.average);
+    print_u16(b" stride_count=", r.stride_count);
+    print_signed(b" resistance=", r.resistance);
+    print_signed(b" power=", r.power);
+    print_signed(b" average_power=", r.average_power);
+    print_u8(b" average_stroke_rate=", r.average_stroke_rate);
+    print_u16(b" cadence=", r.cadence);
+    print_u16(b" average_cadence=", r.average_cadence);
 }
 
 fn print_record(r: Record) {
