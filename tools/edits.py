@@ -248,10 +248,11 @@ def public_functions(source):
 
 
 def full_name(source, program):
-    """The full name of the function that a wrong program is one of; the edit may stand in a helper in another file."""
+    """The full name of the function that a wrong program is one of; the edit may stand in a helper in another file, of a module inside its own first."""
     public = public_functions(source)
     crate = program.file.split("/")[0]
-    homes = [program.file] + [file for file in source.files if file.startswith(crate + "/")]
+    outer = program.file.rpartition("/")[0] + ".rt"
+    homes = [program.file, outer] + [file for file in source.files if file.startswith(crate + "/")]
     found = [public[file, program.function] for file in homes if (file, program.function) in public]
     return found[0] if found else sys.exit(f"strength: {crate} has no public function {program.function}")
 

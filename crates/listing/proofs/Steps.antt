@@ -24,21 +24,15 @@ module _ (w : Walk) where
   unfolding at-beginning
   too-long s h = rw (lt-ltb 65536 (length s) h)
 
-  pub no-octets : (s : List ℕ) → length s ≡ 0 → at-beginning w s ≡ ends w (refused-line 11)
-  unfolding at-beginning at-kind
-  no-octets [] h = refl
-  no-octets (x ∷ s) h = absurd (omega arith)
-
   pub no-kind : (s : List ℕ) → length s ≤ 65536 → known (getD s 0 0) ≡ false → at-beginning w s ≡ ends w (refused-line 11)
   unfolding at-beginning at-kind
   no-kind [] h e = refl
   no-kind (x ∷ s) h e = rw (le-ltb 65536 (length (x ∷ s)) h, e)
 
-  pub of-a-kind : (s : List ℕ) → length s ≤ 65536 → (length s ≡ 0 → ⊥) → known (getD s 0 0) ≡ true
-      → at-beginning w s ≡ goes-on [] (begins (getD s 0 0)) 1
+  pub of-a-kind : (s : List ℕ) → length s ≤ 65536 → known (getD s 0 0) ≡ true → at-beginning w s ≡ goes-on [] (begins (getD s 0 0)) 1
   unfolding at-beginning at-kind
-  of-a-kind [] h n e = absurd (n refl)
-  of-a-kind (x ∷ s) h n e = rw (le-ltb 65536 (length (x ∷ s)) h, e)
+  of-a-kind [] h e = let z : _≡_ {A = ℕ} 0 1 = cc in absurd (omega arith)
+  of-a-kind (x ∷ s) h e = rw (le-ltb 65536 (length (x ∷ s)) h, e)
 
 -- nothing is left of the capture; it ends inside a length or notification; there is one more notification
 module _ (w : Walk) (s : List ℕ) where
@@ -97,9 +91,8 @@ module _ (w : Walk) (s : List ℕ) (size : ℕ) (e : size ≡ number 2 (drop (w 
       let n : w .position + 2 + size - (w .position + 2) ≡ size = omega arith in
       rw (n, ← e, drop-drop 2 (w .position) s)
 
-  pub breaks : {o o′ : List ℕ} {at : ℕ} {r : Stepped} → length s - w .position < 2 + size → Took o at (ends w (refused-line 37)) o′ r
-      → Took o at (at-notification w (drop (w .position) s)) o′ r
-  breaks g q = rw (cut-short w (drop (w .position) s) some (omega (arith, length-drop (w .position) s))) q
+  pub breaks : length s - w .position < 2 + size → at-notification w (drop (w .position) s) ≡ ends w (refused-line 37)
+  breaks g = cut-short w (drop (w .position) s) some (omega (arith, length-drop (w .position) s))
 
   pub moves : {o o′ : List ℕ} {at next : ℕ} {l : Listing} → 2 + size ≤ length s - w .position
       → Wrote o at (lines-of (w .listing) (octets-at s (w .position) size)) o′ next

@@ -100,10 +100,9 @@ module _ (w : Walk) (s : List ℕ) (e : w .ended ≡ false) where
     judged h true k =
         let l = begins (getD s 0 0) in
         let p : 0 < length s = some-octet s k in
-        let n : length s ≡ 0 → ⊥ = λ x. omega arith in
         let f : notifications (length (drop 1 s)) l (drop 1 s) ≡ notifications (length s) l (drop 1 s) =
         fuel (length (drop 1 s)) (length s) l (drop 1 s) (omega arith) (omega (arith, length-drop 1 s)) in
-        goes [] l 1 (one.at-first w s e z ∙ one.of-a-kind w s h n k) (omega arith) p (listing-left ∙ kind-listing s h p k ∙ f)
+        goes [] l 1 (one.at-first w s e z ∙ one.of-a-kind w s h k) (omega arith) p (listing-left ∙ kind-listing s h p k ∙ f)
 
     first-step : Stepping w s
     first-step = elim (decLt 65536 (length s)) [

@@ -2,6 +2,7 @@
 use crate::lines::put_record;
 use crate::lines::put_refused;
 use record::groups::is_known;
+use record::octets::u8_at;
 use record::octets::u16_at;
 use record::refusal::Refusal;
 use service::collector::Collected;
@@ -143,18 +144,16 @@ fn refuse(out: &mut [u8], at: usize, walk: Walk, refusal: Refusal) -> Stepped
     end(next, walk)
 }
 
-// The first step: 36, then 11; it goes on behind the kind.
+// The first step: 36, then 11; it goes on behind the kind. The kind of an empty capture reads as 0, which is none.
 fn judge(out: &mut [u8], at: usize, walk: Walk, capture: &[u8]) -> Stepped
     ensures { λ r. ⌜ Took (now (out .entry)) at (at-beginning walk (now (capture .entry))) (now (out .exit)) r ⌝ }
 {
+    let kind = u8_at(capture, 0);
+    let known = is_known(kind);
     if LONGEST_CAPTURE < capture.len() {
         return refuse(out, at, walk, Refusal::CaptureTooLong);
     }
-    if capture.len() == 0 {
-        return refuse(out, at, walk, Refusal::UnknownKind);
-    }
-    let kind = capture[0];
-    if !is_known(kind) {
+    if !known {
         return refuse(out, at, walk, Refusal::UnknownKind);
     }
     let listing = start(kind);

@@ -26,7 +26,7 @@ const ENERGY: u32 = 1 << 10;
 // "0 forward, 1 backward".
 const BACKWARD: u8 = 1;
 
-pub fn run() {
+pub(crate) fn run() {
     let step_rates = StepRates {
         rate: 58,
         average: 55,

@@ -21,7 +21,7 @@ const HEART_RATE: u32 = 1 << 9;
 
 const ELAPSED: u32 = 1 << 11;
 
-pub fn run() {
+pub(crate) fn run() {
     let energy = Energy {
         total: 287,
         per_hour: 720,

@@ -1,5 +1,5 @@
 // A record of each kind, made, split, collected and printed: the code beside each kind's page of the reference. What is printed is held to the
-// file `stdout`, which was worked out from document 01.
+// file `stdout`, which tools/roundtrip.py writes from document 01 alone.
 mod cross_trainer;
 mod indoor_bike;
 mod round;

@@ -79,7 +79,7 @@ const BLANK: Record = Record {
 };
 
 // The record of a kind with no optional group and every value 0.
-pub fn blank(kind: u8) -> Record {
+pub(crate) fn blank(kind: u8) -> Record {
     let mut record = BLANK;
     record.kind = kind;
     record
@@ -157,7 +157,7 @@ fn send_parts(record: Record, opened: Collection) {
 }
 
 // Splits a record at payload 20, collects its parts, and prints the parts and the record that comes out; or the number of what is refused.
-pub fn split_and_collect(record: Record) {
+pub(crate) fn split_and_collect(record: Record) {
     let opened = open(record.kind, Told::Open);
     let answer = opened.answer;
     match answer {

@@ -24,7 +24,7 @@ const HEART_RATE: u32 = 1 << 9;
 
 const ELAPSED: u32 = 1 << 11;
 
-pub fn run() {
+pub(crate) fn run() {
     let stroke = Stroke {
         rate: 52,
         count: 318,

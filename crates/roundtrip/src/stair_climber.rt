@@ -22,7 +22,7 @@ const ELAPSED: u32 = 1 << 8;
 
 const REMAINING: u32 = 1 << 9;
 
-pub fn run() {
+pub(crate) fn run() {
     let climb = Climb {
         floors: 31,
         steps: 0,

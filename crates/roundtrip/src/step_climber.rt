@@ -22,7 +22,7 @@ const ELAPSED: u32 = 1 << 7;
 
 const REMAINING: u32 = 1 << 8;
 
-pub fn run() {
+pub(crate) fn run() {
     let climb = Climb {
         floors: 24,
         steps: 412,

@@ -22,7 +22,7 @@ const HEART_RATE: u32 = 1 << 8;
 
 const FORCE: u32 = 1 << 12;
 
-pub fn run() {
+pub(crate) fn run() {
     let slope = Slope {
         inclination: Inclination(-25),
         ramp_angle: RampAngle(-14),

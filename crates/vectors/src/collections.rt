@@ -113,7 +113,7 @@ fn run_long() {
     after(opened(b"512 octets", 6, Told::Open), &longest);
 }
 
-pub fn run_all() {
+pub(crate) fn run_all() {
     print(b"collections\n");
     run_openings();
     run_open();

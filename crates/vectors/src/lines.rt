@@ -10,7 +10,7 @@ use service::collector::Told;
 use service::collector::open;
 
 // What is done with the notifications of a line: each is read by itself, or all are given to a collection.
-pub enum By {
+pub(crate) enum By {
     Reading,
     Collecting(Told),
 }
@@ -62,7 +62,7 @@ fn go_on(collection: Collection, kind: u8, by: By, octets: &[u8; 32], digits: us
 }
 
 // The cases of a kind, one on each line: words, a colon, and the octets of the notifications, with `/` between two.
-pub fn run_lines(kind: u8, by: By, lines: &[u8]) {
+pub(crate) fn run_lines(kind: u8, by: By, lines: &[u8]) {
     let none = open(kind, Told::Open);
     let mut collection = none.collection;
     let mut octets = [0u8; 32];

@@ -56,7 +56,7 @@ fn run_feature(octets: &[u8]) {
     print(b"\n");
 }
 
-pub fn run_all() {
+pub(crate) fn run_all() {
     print(b"numbers\n");
     run_s16([0xFF, 0xFF]);
     run_s16([0x00, 0x80]);

@@ -4,17 +4,17 @@ use output::print_number;
 use record::refusal::Refusal;
 
 // The octets of every buffer that is lent here; each part that is run is shorter.
-pub const LENT: usize = 64;
+pub(crate) const LENT: usize = 64;
 
 // What a lent octet holds until it is written.
-pub const UNTOUCHED: u8 = 0xAA;
+pub(crate) const UNTOUCHED: u8 = 0xAA;
 
-pub fn print_u16(label: &[u8], n: u16) {
+pub(crate) fn print_u16(label: &[u8], n: u16) {
     print_number(label, n as u64);
 }
 
 // One of two texts, by a test.
-pub fn print_either(test: bool, yes: &[u8], no: &[u8]) {
+pub(crate) fn print_either(test: bool, yes: &[u8], no: &[u8]) {
     if test {
         print(yes);
     } else {
@@ -23,7 +23,7 @@ pub fn print_either(test: bool, yes: &[u8], no: &[u8]) {
 }
 
 // The octets from a place up to another; all of them, where there are no such places.
-pub fn between(text: &[u8], start: usize, end: usize) -> &[u8] {
+pub(crate) fn between(text: &[u8], start: usize, end: usize) -> &[u8] {
     if start <= end {
         if end <= text.len() {
             return &text[start..end];
@@ -33,7 +33,7 @@ pub fn between(text: &[u8], start: usize, end: usize) -> &[u8] {
 }
 
 // Whether every octet from a place on is as it was lent.
-pub fn is_untouched(buffer: &[u8], from: usize) -> bool {
+pub(crate) fn is_untouched(buffer: &[u8], from: usize) -> bool {
     let mut i = from;
     while i < buffer.len() {
         if buffer[i] != UNTOUCHED {
@@ -44,6 +44,6 @@ pub fn is_untouched(buffer: &[u8], from: usize) -> bool {
     true
 }
 
-pub fn print_refusal(refusal: Refusal) {
+pub(crate) fn print_refusal(refusal: Refusal) {
     print_number(b" refused=", refusal.number() as u64);
 }

@@ -58,7 +58,7 @@ fn print_values(r: Record) {
 }
 
 // Reads a notification where every number held is 7.
-pub fn read_case(kind: u8, notification: &[u8]) {
+pub(crate) fn read_case(kind: u8, notification: &[u8]) {
     print_number(b": kind=", kind as u64);
     print_number(b" length=", notification.len() as u64);
     let mut held = [7u32; 31];
@@ -224,7 +224,7 @@ fn order_cases() {
     own_case(b"order", 1, 0, 0, 20, 0, 4);
 }
 
-pub fn run_all() {
+pub(crate) fn run_all() {
     print(b"notifications\n");
     read_cases();
     long_cases();

@@ -32,7 +32,7 @@ fn nothing(refusal: Refusal) -> Part {
     }
 }
 
-pub fn print_record(r: Record) {
+pub(crate) fn print_record(r: Record) {
     print_number(b"kind=", r.kind as u64);
     print_number(b" groups=", r.groups as u64);
     print_number(b" direction=", r.direction as u64);
@@ -69,7 +69,7 @@ fn run_part(r: Record, payload: usize, part: usize, held: &mut [u32; 31]) -> Par
     }
 }
 
-pub fn same_numbers(a: &[u32; 31], b: &[u32; 31]) -> bool {
+pub(crate) fn same_numbers(a: &[u32; 31], b: &[u32; 31]) -> bool {
     for i in 0..31 {
         if a[i] != b[i] {
             return false;
@@ -155,7 +155,7 @@ fn run_table() {
     run_whole(6, 0, 30);
 }
 
-pub fn run_all() {
+pub(crate) fn run_all() {
     print(b"values=least\n");
     run_kinds(Values::Least);
     print(b"values=greatest\n");

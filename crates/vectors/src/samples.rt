@@ -18,7 +18,7 @@ use record::record::StepRates;
 use record::record::Stroke;
 
 // Each present field at its least, at its greatest, or at a number of its own.
-pub enum Values {
+pub(crate) enum Values {
     Least,
     Greatest,
     Own,
@@ -94,7 +94,7 @@ const OWN: Record = Record {
     average_cadence: 1031,
 };
 
-pub fn number_at(numbers: &[u32; 31], field: u8) -> u32 {
+pub(crate) fn number_at(numbers: &[u32; 31], field: u8) -> u32 {
     let i = field as usize;
     if i < 31 {
         return numbers[i];
@@ -102,7 +102,7 @@ pub fn number_at(numbers: &[u32; 31], field: u8) -> u32 {
     0
 }
 
-pub fn put_number(numbers: &mut [u32; 31], field: u8, x: u32) {
+pub(crate) fn put_number(numbers: &mut [u32; 31], field: u8, x: u32) {
     let i = field as usize;
     if i < 31 {
         numbers[i] = x;
@@ -119,7 +119,7 @@ fn value(values: Values, row: Row, own: &[u32; 31]) -> u32 {
 }
 
 // Whether a row's group is present: bit 0, the main one, always is.
-pub fn is_present(row: Row, groups: u32) -> bool {
+pub(crate) fn is_present(row: Row, groups: u32) -> bool {
     row.0 == 0 || has(groups, row.0)
 }
 
@@ -137,7 +137,7 @@ fn fill(values: Values, kind: u8, groups: u32, own: &[u32; 31], numbers: &mut [u
 }
 
 // The record of a kind with these groups, each present field at its value.
-pub fn sample(values: Values, kind: u8, groups: u32, direction: u8) -> Record {
+pub(crate) fn sample(values: Values, kind: u8, groups: u32, direction: u8) -> Record {
     let own = numbers_of(OWN);
     let mut numbers = [0u32; 31];
     fill(values, kind, groups, &own, &mut numbers);

@@ -39,7 +39,7 @@ fn print_opening(answer: Opening) {
 }
 
 // Opens a collection; the first line of a case.
-pub fn opened(words: &[u8], kind: u8, told: Told) -> Collection {
+pub(crate) fn opened(words: &[u8], kind: u8, told: Told) -> Collection {
     print(words);
     print_number(b": kind=", kind as u64);
     print_told(told);
@@ -92,7 +92,7 @@ fn print_collected(answer: Collected) {
 }
 
 // Gives a collection a notification; the next line of a case, with at most twenty of the octets.
-pub fn after(collection: Collection, notification: &[u8]) -> Collection {
+pub(crate) fn after(collection: Collection, notification: &[u8]) -> Collection {
     print_number(b"length=", notification.len() as u64);
     print(b":");
     print_octets(first(notification, 20));

@@ -20,7 +20,7 @@ returns-2 c =
     let u = t .before in
     let l = u .before in
     let s = l .before .before .before .args in
-    breaks (s .walk) (s .capture .now) _ (u .u16-at .ensures) (l .if1 .left) (t .if2 .taken) (r .refuse .ensures)
+    rw (breaks (s .walk) (s .capture .now) _ (u .u16-at .ensures) (l .if1 .left) (t .if2 .taken)) (r .refuse .ensures)
 
 returns-3 : tie.Need-returns-3
 returns-3 c =

@@ -54,10 +54,6 @@ the-length c =
     ap₂ _+_ (c .before .before .before .flags-length .ensures) (c .groups-length .ensures ∙ ap (set-length (s .args .kind)) (the-set (c .before .before)))
     ∙ sym (octets-length (s .args .kind) (set s) (s .args .direction) (now (s .args .numbers)))
 
--- it has room
-has-room : (c : tie.Else2) → let s = c .before .before .before .before .before .before in leb (length (text s)) (lent s) ≡ true
-has-room c = le-leb _ _ (rw (the-length (c .before)) at (c .if2 .left))
-
 sub-cut-at : tie.Need-sub-cut-at
 sub-cut-at c =
     let h : flags-octets (c .before .before .args .kind) ≤ 3 = flags-most (c .before .before .args .kind) in
@@ -82,9 +78,10 @@ add-length c =
 returns-2 : tie.Need-returns-2
 unfolding extent-of
 returns-2 c =
-    let s = c .before .before .before .before .before .before in
-    let r : leb (length (text s)) (lent s) ≡ false = lt-leb _ _ (rw (the-length (c .before)) at (c .if2 .taken)) in
-    rw (is-part (c .before .before), r) (refl, refl)
+    let g = c .before in
+    let s = g .before .before .before .before .before in
+    let r : leb (length (text s)) (lent s) ≡ false = lt-leb (length (text s)) (lent s) (omega (arith, the-length g)) in
+    rw (is-part (g .before), r) (refl, refl)
 
 put-part-requires : tie.Need-put-part-requires
 put-part-requires c κs =
@@ -98,11 +95,12 @@ unfolding extent-of
 returns-3 c =
     let p = c .before .before in
     let e = p .before .before in
-    let k = e .before .before .before in
+    let g = e .before in
+    let k = g .before .before in
     let s = k .before .before .before in
-    let fit : length (text s) ≤ lent s = rw (the-length (e .before)) at (e .if2 .left) in
-    rw (is-part (e .before .before), has-room e) (
-      rw (the-length (e .before), the-count k) refl,
+    let fit : length (text s) ≤ lent s = omega (arith, the-length g) in
+    rw (is-part (g .before), le-leb (length (text s)) (lent s) fit) (
+      rw (the-length g, the-count k) refl,
       p .put-part .ensures
           ∙ ap (λ (n : ℕ). placed (now (s .args .out)) 0 (octets (s .args .kind) n (s .args .direction) (now (s .args .numbers)))) (the-set k)
           ∙ placed-over (now (s .args .out)) (text s) fit,

@@ -17,8 +17,8 @@ use Rattle.reference.proofs.tables.put_table.Tie as tie
 
 abbrev Inv-loop : tie.InvT-loop
 Inv-loop out₀ at kind n next₀ offset₀ i₀ out next offset i =
-    (n ≡ length (layout kind)) × (i ≤ n) × (length out ≡ length out₀) × (offset ≡ flags-octets kind + size (take i (layout kind))) × (offset ≤ 3 + 3 * i) ×
-    Wrote out₀ at (row-lines kind (flags-octets kind) (take i (layout kind))) out next
+    (n ≡ length (layout kind)) × Wrote out₀ at (row-lines kind (flags-octets kind) (take i (layout kind))) out next × (i ≤ n) ×
+    (length out ≡ length out₀) × (offset ≡ flags-octets kind + size (take i (layout kind))) × (offset ≤ 3 + 3 * i)
 
 abbrev μ-loop : tie.MeasureT-loop
 μ-loop out₀ at kind n next₀ offset₀ i₀ out next offset i = n - i
@@ -41,7 +41,7 @@ unfolding size
 loop-holds c =
     let f = c .flags-length .ensures in
     let b = flags-small c in
-    (c .before .row-count .ensures, omega arith, refl, omega (arith, f), omega arith, nothing _ _ (omega arith) (omega arith))
+    (c .before .row-count .ensures, nothing _ _ (omega arith) (omega arith), omega arith, refl, omega (arith, f), omega arith)
 
 loop-again : tie.Need-loop-again Inv-loop μ-loop
 loop-again c =
@@ -52,12 +52,12 @@ loop-again c =
     let w = octets-few c in
     let n = next-size (flags-octets (s .kind)) (layout (s .kind)) (l .loop .i) no-row (g .row-of .result) (g .row-of .ensures) (omega arith) in (
       l .loop .inv .0,
+      next-line (s .kind) (flags-octets (s .kind)) (layout (s .kind)) (l .loop .i) (l .loop .offset) no-row (g .row-of .result) (g .row-of .ensures) (omega arith)
+          (l .loop .inv .4) (l .loop .inv .1) (r .put-row .ensures),
       omega arith,
       omega (arith, r .put-row .kept .0),
-      omega (arith, n, c .width-length .ensures, l .loop .inv .3),
-      omega (arith, w, l .loop .inv .4),
-      next-line (s .kind) (flags-octets (s .kind)) (layout (s .kind)) (l .loop .i) (l .loop .offset) no-row (g .row-of .result) (g .row-of .ensures) (omega arith)
-          (l .loop .inv .3) (l .loop .inv .5) (r .put-row .ensures),
+      omega (arith, n, c .width-length .ensures, l .loop .inv .4),
+      omega (arith, w, l .loop .inv .5),
     )
 
 returns : tie.Need-returns Inv-loop μ-loop
@@ -65,7 +65,7 @@ unfolding table
 returns c =
     let l = c .before in
     let s = l .before .before .before .before .args in
-    all-lines (s .kind) (flags-octets (s .kind)) (layout (s .kind)) (l .loop .i) (omega arith) (l .loop .inv .5)
+    all-lines (s .kind) (flags-octets (s .kind)) (layout (s .kind)) (l .loop .i) (omega arith) (l .loop .inv .1)
 
 pub put-table-spec : {M : Type 1} → statement M
 put-table-spec =
@@ -81,9 +81,9 @@ put-table-spec =
     (λ c κs. search needs)
     (λ c κs. search needs)
     (λ c. let w = octets-few c in search needs)
-    (λ c. let w = octets-few c in let l = c .before .before .before .before .before .before in let n = rows-few l in let o = l .before .loop .inv .4 in search needs)
+    (λ c. let w = octets-few c in let l = c .before .before .before .before .before .before in let n = rows-few l in let o = l .before .loop .inv .5 in search needs)
     (λ c. omega arith)
     (λ c. omega arith)
     loop-again
-    (λ c. c .before .loop .inv .2)
+    (λ c. c .before .loop .inv .3)
     returns)

@@ -1,6 +1,6 @@
 -- `write` meets its contract: the refusals in their order, then the answer. Assumes nothing.
 use Prim.Native.Nat.{ℕ, _≤_}
-use mathlib.Core.Path.{_≡_, sym, _∙_}
+use mathlib.Core.Path.{_≡_}
 use mathlib.Core.Bool.{false, not}
 use mathlib.Core.List.{List}
 use borrow.Author.Needs.{needs}
@@ -46,7 +46,7 @@ shown : (c : tie.Else4) → not (is-indicating (k (start-4 c)) (by (start-4 c)))
 shown c = rw (c .before .before .before .before .before .client-at .ensures) at (c .if4 .left)
 
 clear : (c : tie.Else5) → someone (k (start-4 (c .before .before)) .awaited) ≡ false
-clear c = sym (c .before .is-someone .ensures) ∙ c .if5 .left
+clear c = search needs
 
 returns : tie.Need-returns
 returns c = let s = c .before .before .before in rw (writes-10 (k s) (by s) (octets s) (c .before .if1 .taken)) (c .refused .ensures)
@@ -77,7 +77,7 @@ returns-5 c =
     let o = i .before .before in
     let j = o .before in
     let s = start-4 i in
-    rw (writes-20 (k s) (by s) (octets s) (small (j .before .before .before)) (joined j) (some o) (shown i) (sym (c .before .before .is-someone .ensures) ∙ c .before .if5 .taken)) (c .refused5 .ensures)
+    rw (writes-20 (k s) (by s) (octets s) (small (j .before .before .before)) (joined j) (some o) (shown i) (search needs)) (c .refused5 .ensures)
 
 returns-6 : tie.Need-returns-6
 returns-6 c =
