@@ -1,7 +1,11 @@
 """Twins: one wrong reading of document 01 in specs/ and in the code alike. tools/strength.py asks which theorem and which run notices each.
 
-The libraries are checked in one run of `rt dev`, one of them over the others as source, so that what an edit does not touch is not checked again.
-A twin is carried through where the prover takes every function: each then meets its contract, which is wrong. What it refuses is a theorem.
+A twin is carried into the proofs of the functions where those name the case, so that the prover takes every function: each meets its contract, which is wrong.
+What the prover then refuses is a theorem: a number of document 01 by computation, or a law in other words.
+
+The twins stand in tools/twins/. A head: the part of document 01, and what is wrong. Below it document 01's words; then each file with its edits: the old text, which
+stands there once, ⇒, the new. A text of more than one line has - in front of each old line and + in front of each new one; + alone makes a file. `every` in
+front of a text says that it is changed wherever it stands.
 """
 import os
 import re
@@ -9,6 +13,8 @@ import sys
 import time
 
 from proving import ROOT, TOP
+
+FILES = ["machine", "calls", "judging", "op_codes", "layouts", "records", "splitting", "reading", "collecting", "listing", "host"]
 
 
 class Twin:
@@ -86,8 +92,8 @@ class Verdict:
 def by_computation(file, name):
     """Whether a definition's whole proof is that both sides compute to the same."""
     text = open(file).read()
-    computed = r"(record \{ )?[(]?((\w+ = )?refl[,;)]* ?)+\}?|every .* refl"
-    return bool(re.search(rf"^ *{re.escape(name)}( \w+)* = ({computed})$", text, re.M))
+    computed = r" = (record \{ )?[(]?((\w+ = )?refl[,;)]* ?)+\}?|( \w+)* = every .* refl"
+    return bool(re.search(rf"^ *{re.escape(name)}({computed})$", text, re.M))
 
 
 def modules(copy):
@@ -147,7 +153,7 @@ def judge(copy, twin, run):
 
 
 def try_twins(copy, only, run, report):
-    twins = [twin for twin in twins_of(os.path.join(ROOT, "tools", "twins.txt")) if not only or only in f"{twin.part}: {twin.words}"]
+    twins = [twin for name in FILES for twin in twins_of(os.path.join(ROOT, "tools", "twins", name + ".txt")) if only in f"{twin.part}: {twin.words}"]
     for twin in twins:
         twin.texts(lambda file: open(copy.path(file)).read())
     copy.together()
