@@ -1,124 +1,42 @@
 #!/usr/bin/env python3
-"""Edits the code of the libraries and asks the prover to refuse each edit.
+"""Edits the code of the libraries, or code and specs/ alike, and asks the prover to refuse each edit.
 
     python3 tools/strength.py                   a random sample of 60 edits of one token each, from a fixed seed
     python3 tools/strength.py --constants       an edit of each constant that is no table
     python3 tools/strength.py --wrong           the wrong programs of tools/wrong.txt, two at least for each public function
+    python3 tools/strength.py --larger          a sample of 40 edits that are no single token (tools/larger.py), from a fixed seed
+    python3 tools/strength.py --twins           the twins of tools/twins/: which theorem notices each
     python3 tools/strength.py --list            the places that the sample is drawn from, and proves nothing
 
     -n N           how many edits are judged            --seed S       another sample
-    --copy DIR     the copy to work in (target/strength) --only WORD   the wrong programs whose file or function has this word
+    --copy DIR     the copy to work in (target/strength) --only WORD   the wrong programs or twins whose name has this word, or a rule of --larger
     --skip WORDS   the sample leaves out files with one of these words in their name (a comma between two)
+    --run          for each twin, a program too whose output is another
     --report FILE  the table, in Markdown
 
-An edit is made in a copy of the repository; its crate is checked there by `rt dev`, and the file is put back. `refused`: the prover does not
-prove the crate. `no program`: the compiler takes no such text; the edit says nothing, and another is drawn. `survived`: the crate is still
-proved, and so is every library above it, and `ftlist`. One prover runs at a time; what it said last is in the copy's target/last.out. The exit status is 0
-where nothing survived.
+An edit is made in a copy of the repository and checked there by `rt dev`, and the file is put back. `refused`: the prover does not prove the code.
+`no program`: the compiler takes no such text; the edit says nothing, and another is drawn. `survived`: the crate is still proved, and so is every library
+above it, and `ftlist`. One prover runs at a time; what it said last is in the copy's target/last.out. The exit status is 0 where nothing survived.
+
+A twin is `by computation` where a theorem is false whose proof is that both sides compute to the same, and `by a law` where another one is refused; the
+programs are then run in any case. `UNNOTICED`: all is proved, and no program writes anything else. `not carried through`: a function is not proved, so that the edit
+of its own proof is missing; then, as where a twin is unnoticed, the exit status is 1.
 """
 import argparse
 import os
 import random
-import re
-import shutil
-import signal
-import subprocess
 import sys
 import time
 
 sys.dont_write_bytecode = True
 
-from edits import LIBRARIES, RELYING, Source, constant_sites, full_name, region, sites_of, untried, wrong_programs
+from edits import Source, constant_sites, full_name, region, sites_of, untried, wrong_programs
+from larger import try_larger
+from proving import ROOT, Copy, short, told
+from twins import try_twins
 
 SEED = 20260101
 COUNT = 60
-LIMIT = 600  # seconds for one check
-ROOT = os.path.dirname(os.path.dirname(os.path.abspath(__file__)))
-
-
-class Copy:
-    """A copy of the repository whose libraries are proved, in which files are edited and put back."""
-
-    def __init__(self, where):
-        self.where = where
-        os.makedirs(where, exist_ok=True)
-        shutil.rmtree(os.path.join(where, "crates"), ignore_errors=True)
-        shutil.copytree(os.path.join(ROOT, "crates"), os.path.join(where, "crates"))
-        shutil.copy2(os.path.join(ROOT, "crates.txt"), where)
-        self.above = {name: [] for name in LIBRARIES}
-        for line in open(os.path.join(where, "crates.txt")):
-            name, _, below = line.partition(":")
-            for other in below.split():
-                if name.strip() in LIBRARIES + RELYING and other in LIBRARIES:
-                    self.above[other].append(name.strip())
-
-    def path(self, file):
-        return os.path.join(self.where, "crates", file)
-
-    def check(self, crate):
-        """The verdict on a crate, and where it was first refused."""
-        run = subprocess.Popen(["rt", "dev", crate], cwd=self.where, stdout=subprocess.PIPE, stderr=subprocess.STDOUT, text=True,
-                               errors="replace", start_new_session=True, env=dict(os.environ, RT_CUT="0", RT_JOBS="1"))
-        try:
-            said, _ = run.communicate(timeout=LIMIT)
-        except subprocess.TimeoutExpired:
-            os.killpg(run.pid, signal.SIGKILL)
-            run.communicate()
-            return "undecided", f"no answer in {LIMIT} s"
-        with open(os.path.join(self.where, "target", "last.out"), "w") as last:
-            last.write(said)
-        if run.returncode == 0 and re.search(r"^logic=proved", said, re.M):
-            return "survived", ""
-        if run.returncode == 1 and re.search(r"^logic=not-proved", said, re.M):
-            return "refused", first_refused(said, self.where)
-        if run.returncode in (1, 2):
-            return "no program", said.strip().split("\n")[0][:120]
-        return "undecided", f"exit {run.returncode}"
-
-    def warm(self):
-        for name in LIBRARIES + RELYING:
-            began = time.time()
-            verdict, why = self.check(name)
-            print(f"{name} as it stands: {'proved' if verdict == 'survived' else verdict + ' ' + why} ({time.time() - began:.0f} s)", flush=True)
-            if verdict != "survived":
-                sys.exit("strength: a library is not proved before any edit")
-
-    def judge(self, file, start, end, new):
-        """Judges a replacement in one file, which is put back whatever happens."""
-        crate, path = file.split("/")[0], self.path(file)
-        kept, times = open(path).read(), os.stat(path)
-        with open(path, "w") as out:
-            out.write(kept[:start] + new + kept[end:])
-        try:
-            verdict, where = self.check(crate)
-            if verdict == "survived":
-                for name in self.above[crate]:
-                    verdict, where = self.check(name)
-                    if verdict != "survived":
-                        where = f"{name}: {where}"
-                        break
-        finally:
-            with open(path, "w") as out:
-                out.write(kept)
-            os.utime(path, ns=(times.st_atime_ns, times.st_mtime_ns))
-        return verdict, where
-
-
-def first_refused(said, where):
-    """The first place that the prover names: a function whose proof fails, or a file."""
-    found = re.search(r"^(\S+): error", said, re.M) or re.search(r"^note: (\S+:\d+:\d+):", said, re.M)
-    place = found.group(1) if found else "?"
-    place = place.replace(where + "/", "").replace("crates/", "")
-    return place
-
-
-def short(text):
-    """A text on one line of a table."""
-    return " ".join(text.split()).replace("|", "\\|") or "(nothing)"
-
-
-def told(verdict, where):
-    return f"`{where}`" if verdict == "refused" else f"**{verdict}** {where}"
 
 
 def sample(copy, asked):
@@ -181,6 +99,9 @@ def main():
     words.add_argument("--seed", type=int, default=SEED)
     words.add_argument("--constants", action="store_true")
     words.add_argument("--wrong", action="store_true")
+    words.add_argument("--larger", action="store_true")
+    words.add_argument("--twins", action="store_true")
+    words.add_argument("--run", action="store_true")
     words.add_argument("--list", action="store_true")
     words.add_argument("--only", default="")
     words.add_argument("--skip", default="")
@@ -194,6 +115,10 @@ def main():
                 print(f"{site.place} {site.old} -> {' '.join(c or '(nothing)' for c in site.candidates)}")
         return
     copy = Copy(os.path.abspath(asked.copy))
+    if asked.larger:
+        sys.exit(0 if try_larger(copy, Source(os.path.join(ROOT, "crates")), asked) else 1)
+    if asked.twins:
+        sys.exit(0 if try_twins(copy, asked.only, asked.run, asked.report) else 1)
     copy.warm()
     if asked.wrong:
         good = wrong(copy, asked.only, asked.report)

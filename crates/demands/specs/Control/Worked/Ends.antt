@@ -1,10 +1,11 @@
 -- The five ranges at both ends and beyond each: "Ranges (least, greatest, both allowed)", "value outside its range .., result 03", "02 to 06 ..
 -- store the parameter octets".
-use Prim.Native.Nat.{ℕ}
+use Prim.Native.Nat.{ℕ, suc}
 use mathlib.Core.Bool.{cond}
 use mathlib.Core.List.{List, [], _∷_, _++_, map}
 use lib.Dec.{eqb}
 use lib.IntN.{ℤ, pos, negsuc}
+use lib.ListN.{replicate}
 use Rattle.service.specs.declared.control.ranges.Ranges.{Ranges}
 use Rattle.service.specs.declared.control.machine.Mode.the-variants.{Stopped}
 use Rattle.service.specs.declared.control.machine.Who.the-variants.{Nobody, Client}
@@ -132,5 +133,17 @@ narrowest =
     takes 0x06 (80 ∷ []) 0x09 ((0x06, 80 ∷ []) ∷ []) ∷
     declines 0x06 (81 ∷ []) [] ∷ [])
 
+-- "Ranges .. exist for speed u16, inclination s16, resistance s16, power s16, heart rate u8.": every parameter of another op code is taken, here all
+-- octets 0 and all octets 255, where each range is of one number
+abbrev pub at-ends : List (ℕ × ℕ) → List Row
+at-ends [] = []
+at-ends (x ∷ xs) =
+    takes (x .0) (replicate (x .1) 0) (suc (x .0)) [] ∷ takes (x .0) (replicate (x .1) 0xff) (suc (x .0)) ((x .0, replicate (x .1) 0xff) ∷ []) ∷ at-ends xs
+
+abbrev pub unbounded : Table
+unbounded =
+    table (able (between 300 300 (negsuc 2) (negsuc 2) (pos 7) (pos 7) (negsuc 0) (negsuc 0) 80 80)) (holds 0) (sent [] []) (standing [])
+    (at-ends ((0x09, 2) ∷ (0x0a, 2) ∷ (0x0b, 2) ∷ (0x0c, 3) ∷ (0x0d, 2) ∷ (0x0e, 4) ∷ (0x0f, 6) ∷ (0x10, 10) ∷ (0x11, 6) ∷ (0x12, 2) ∷ (0x14, 2) ∷ []))
+
 abbrev pub ends : List Table
-ends = five-ranges ∷ below-zero ∷ all-below-zero ∷ widest ∷ narrowest ∷ []
+ends = five-ranges ∷ below-zero ∷ all-below-zero ∷ widest ∷ narrowest ∷ unbounded ∷ []

@@ -7,6 +7,7 @@ use lib.ListN.{length, take, replicate}
 use Rattle.service.specs.declared.control.machine.Mode.the-variants.{Running}
 use Rattle.service.specs.declared.control.machine.Who.the-variants.{Nobody, Client}
 use Rattle.service.specs.Control.Replies.{sent}
+use Rattle.service.specs.Control.Calls.{opening}
 use Rattle.demands.specs.Control.Point.{connect, disconnect, confirm, indicate, write}
 use Rattle.demands.specs.Control.Cases.{ready, asks, holds}
 use Rattle.demands.specs.Control.Worked.Seen.{State, state, Row, Table, table}
@@ -46,6 +47,15 @@ order =
     answers 0 0x08 (3 ∷ []) 0x03 ∷
     answers 0 0x07 [] 0x04 ∷ [])
 
+-- the same machine without any target setting: "unsupported op code, result 02" is judged before "not the holder", "wrong length" and "value outside its range"
+abbrev pub lacking : Table
+lacking =
+    table (opening (replicate 8 0) fair) (holds 0 ++ asks 0 (0x07 ∷ []) ++ ready 1) (sent [] []) running
+    (answers 1 0x02 (0xe8 ∷ 0x03 ∷ []) 0x02 ∷
+    answers 1 0x14 [] 0x02 ∷
+    answers 0 0x02 (0xe8 ∷ []) 0x02 ∷
+    answers 0 0x02 (0xff ∷ 0xff ∷ []) 0x02 ∷ [])
+
 -- "10: client above 3": each call of client 255, and of 256
 abbrev pub above-three : Table
 above-three =
@@ -67,4 +77,4 @@ abbrev pub lengths : Table
 lengths = table (able fair) (holds 0) (sent [] []) (standing []) (shortened sixteen)
 
 abbrev pub orders : List Table
-orders = order ∷ above-three ∷ lengths ∷ []
+orders = order ∷ lacking ∷ above-three ∷ lengths ∷ []

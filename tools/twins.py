@@ -1,0 +1,180 @@
+"""Twins: one wrong reading of document 01 in specs/ and in the code alike. tools/strength.py asks which theorem and which run notices each.
+
+A twin is carried into the proofs of the functions where those name the case, so that the prover takes every function: each meets its contract, which is wrong.
+What the prover then refuses is a theorem: a number of document 01 by computation, or a law in other words.
+
+The twins stand in tools/twins/. A head: the part of document 01, and what is wrong. Below it document 01's words; then each file with its edits: the old text, which
+stands there once, ⇒, the new. A text of more than one line has - in front of each old line and + in front of each new one; + alone makes a file. `every` in
+front of a text says that it is changed wherever it stands.
+"""
+import os
+import re
+import sys
+import time
+
+from proving import ROOT, TOP
+
+FILES = ["machine", "calls", "judging", "op_codes", "layouts", "records", "splitting", "reading", "collecting", "listing", "host"]
+
+
+class Twin:
+    def __init__(self, part, words):
+        self.part, self.words, self.quote = part, words, ""
+        self.edits = []  # each a file, an old text, a new one, and whether it is changed everywhere
+
+    def texts(self, read):
+        """The texts of its files with the edits made."""
+        found = {}
+        for file, old, new, everywhere in self.edits:
+            text = found[file] if file in found else read(file) if old else new + "\n"
+            count = text.count(old) if old else 1
+            if count == 0 or count > 1 and not everywhere:
+                sys.exit(f"strength: {self.words}: `{old}` stands {count} times in {file}")
+            found[file] = text.replace(old, new) if old else text
+        return found
+
+
+def twins_of(path):
+    """The twins of a file: a head, document 01's words, and for each file its edits."""
+    found, file, kind = [], None, ""
+    for number, line in enumerate(open(path), 1):
+        text, before = line.rstrip("\n")[4:], kind
+        kind = text[:1] if line.startswith("    ") and " ⇒ " not in line else ""
+        if not line.strip() or line.startswith("#"):
+            continue
+        if not line.startswith(" "):
+            found.append(Twin(*line.strip().split(": ", 1)))
+        elif re.fullmatch(r"  \w+/(specs|src|proofs)/\S+\n", line):
+            file = line.strip()
+        elif not line.startswith("    "):
+            found[-1].quote = line.strip()
+        elif kind == "":
+            everywhere = text.startswith("every ")
+            old, new = text[6 * everywhere:].split(" ⇒ ")
+            found[-1].edits.append((file, old, new, everywhere))
+        elif kind == "-" and before == "-":
+            found[-1].edits[-1][1].append(text[2:])
+        elif kind == "-":
+            found[-1].edits.append((file, [text[2:]], [], False))
+        elif kind == "+" and before in ("-", "+"):
+            found[-1].edits[-1][2].append(text[2:])
+        elif kind == "+":
+            found[-1].edits.append((file, [], [text[2:]], False))
+        else:
+            sys.exit(f"strength: {path}:{number}: not a line of a twin")
+    for twin in found:
+        twin.edits = [(file, *("\n".join(text) if isinstance(text, list) else text for text in pair), everywhere) for file, *pair, everywhere in twin.edits]
+    return found
+
+
+class Verdict:
+    """What the prover said of a twin: which functions it did not take, and which definitions are false, but for those that only rest on one."""
+
+    def __init__(self, copy):
+        self.verdict, self.where, said = copy.check_all()
+        self.functions = [name for name in re.findall(r"^fn (\S+): (?!proved)", said, re.M) if not name.startswith(TOP + "::")]
+        self.computed, self.laws, self.errors = [], [], []
+        for file, at, name, words in re.findall(r"^(\S+?):(\d+:\d+): error: `([^`]+)`: (.*)", said, re.M):
+            place = (file.split("crates/")[-1], name)
+            found = self.computed if by_computation(copy.path(place[0]), name) else self.laws
+            if "was not admitted" not in words and place not in found:
+                found.append(place)
+                self.errors.append(f"{place[0]}:{at}: {name}: {words[:300]}")
+
+    def word(self):
+        if self.verdict != "refused":
+            return self.verdict
+        if self.functions:
+            return "not carried through"
+        return "by computation" if self.computed else "by a law"
+
+
+def by_computation(file, name):
+    """Whether a definition's whole proof is that both sides compute to the same."""
+    text = open(file).read()
+    computed = r" = (record \{ )?[(]?((\w+ = )?refl[,;)]* ?)+\}?|( \w+)* = every .* refl"
+    return bool(re.search(rf"^ *{re.escape(name)}({computed})$", text, re.M))
+
+
+def modules(copy):
+    """The modules of all crates, each with those that it names: a crate's first folders and files count as modules."""
+    graph = {}
+    for crate in copy.below:
+        for folder, _, bases in os.walk(copy.path(crate + "/src")):
+            for base in bases:
+                text = open(os.path.join(folder, base)).read()
+                names = {(crate if first == "crate" else first, second) for first, second in re.findall(r"\b(\w+)::(\w+)", text)}
+                if base == "main.rt":
+                    names |= {(crate, name) for name in re.findall(r"^mod (\w+);", text, re.M)}
+                graph.setdefault((crate, os.path.relpath(os.path.join(folder, base), copy.path(crate + "/src")).split("/")[0].removesuffix(".rt")), set()).update(names)
+    return graph
+
+
+def reaching(copy, files):
+    """The programs that use, at first or second hand, a module of which a source file was edited."""
+    graph = modules(copy)
+    edited = {(file.split("/")[0], file.split("/")[2].removesuffix(".rt")) for file in files if "/src/" in file}
+    for program in copy.programs:
+        seen, todo = set(), [(program, "main")]
+        while todo:
+            node = todo.pop()
+            node = node if node in graph else (node[0], "lib")
+            if node in graph and node not in seen:
+                seen.add(node)
+                todo += graph[node]
+        if seen & edited:
+            yield program
+
+
+def noticing(copy, files):
+    """The first program that reaches an edited file and writes something else than its `stdout`, one over the fewest crates first; or none."""
+    for name in sorted(reaching(copy, files), key=lambda name: len(copy.below[name])):
+        said, status = copy.run("try", name)
+        if status == 1 and "did not write what is expected" in said:
+            return name
+        if status != 0:
+            sys.exit(f"strength: {name} does not run: " + said.strip().split("\n")[0])
+    return "none"
+
+
+def shown(theorems):
+    """Names with their files, for a table: three at the most."""
+    words = [f"`{name}` in `{file}`" for file, name in theorems[:3]]
+    return ", ".join(words) + (f" and {len(theorems) - 3} more" if len(theorems) > 3 else "") or "none"
+
+
+def judge(copy, twin, run):
+    """The verdict on a twin, and the program that notices it: they are run where it is asked for, or where no computation notices."""
+    texts = twin.texts(lambda file: open(copy.path(file)).read())
+    with copy.edited(texts):
+        verdict = Verdict(copy)
+        program = noticing(copy, texts) if run or verdict.word() in ("survived", "by a law") else "not run"
+    return verdict, program
+
+
+def try_twins(copy, only, run, report):
+    twins = [twin for name in FILES for twin in twins_of(os.path.join(ROOT, "tools", "twins", name + ".txt")) if only in f"{twin.part}: {twin.words}"]
+    for twin in twins:
+        twin.texts(lambda file: open(copy.path(file)).read())
+    copy.together()
+    rows, tally, good = [], {}, True
+    for number, twin in enumerate(twins, 1):
+        began = time.time()
+        verdict, program = judge(copy, twin, run)
+        word = verdict.word()
+        if word == "survived":
+            word = "by a run alone" if program != "none" else "UNNOTICED"
+        good = good and word.startswith("by ")
+        tally[word] = tally.get(word, 0) + 1
+        theorems = verdict.computed + verdict.laws
+        named = ", ".join(f"{name} ({file})" for file, name in theorems) or "none"
+        print(f"{number} {twin.part}: {twin.words}: {word}; theorems: {named}; run: {program} ({time.time() - began:.0f} s)", flush=True)
+        if not word.startswith("by "):
+            for line in [verdict.where] + [f"not proved: {name}" for name in verdict.functions] + verdict.errors:
+                print("    " + line, flush=True)
+        rows.append(f"| {twin.quote} | {twin.words} | {shown(theorems)} | {program} |")
+    print(f"{len(twins)} twins: " + ", ".join(f"{n} {word}" for word, n in sorted(tally.items())))
+    if report:
+        with open(report, "w") as out:
+            out.write("| document 01 | the wrong reading, in specs/ and code | theorems that notice | a program that notices |\n|---|---|---|---|\n" + "\n".join(rows) + "\n")
+    return good
