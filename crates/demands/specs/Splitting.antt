@@ -31,15 +31,15 @@ taken kind groups direction = of-wire kind groups direction (wire sample.treadmi
 abbrev pub with-value : ℕ → ℕ → Record
 with-value f x = of-wire 1 0x1FFE 0 (set (wire sample.treadmill) f x)
 
--- all that can be wrong at once, then with the first thing put right, and so on
+-- all that can be wrong at once, with no octet lent; then with the first thing put right, and so on
 abbrev pub order : List Row
 order =
-    row (taken 0 0x3FFE 1) 19 2 16 (refused 11) ∷
-    row (taken 7 0x3FFE 1) 513 2 16 (refused 11) ∷
-    row (taken 1 0x3FFE 1) 19 2 16 (refused 12) ∷
-    row (taken 1 0x3FFE 1) 513 2 16 (refused 12) ∷
-    row (taken 1 0x3FFE 1) 20 2 16 (refused 13) ∷
-    row sample.treadmill 20 2 16 (refused 15) ∷
+    row (taken 0 0x3FFE 1) 19 2 0 (refused 11) ∷
+    row (taken 7 0x3FFE 1) 513 2 0 (refused 11) ∷
+    row (taken 1 0x3FFE 1) 19 2 0 (refused 12) ∷
+    row (taken 1 0x3FFE 1) 513 2 0 (refused 12) ∷
+    row (taken 1 0x3FFE 1) 20 2 0 (refused 13) ∷
+    row sample.treadmill 20 2 0 (refused 15) ∷
     row sample.treadmill 20 0 16 (refused 14) ∷
     row sample.treadmill 20 0 17 (extent 17 2) ∷
     row sample.treadmill 20 1 18 (refused 14) ∷

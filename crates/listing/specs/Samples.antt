@@ -1,6 +1,7 @@
 -- Listings as theorems, by computation.
 use mathlib.Core.Path.{_≡_, refl}
 use mathlib.Core.List.{[], _∷_}
+use lib.ListN.{replicate}
 use Rattle.record.specs.Layout.{layout, tables, treadmill, cross-trainer, step-climber, stair-climber, rower, indoor-bike}
 use Rattle.record.specs.Groups.{has, named, size, groups-of, listed}
 use Rattle.record.specs.Octets.{number}
@@ -25,3 +26,8 @@ pub samples :
     (listing (0x06 ∷ 0x04 ∷ 0x00 ∷ 0x00 ∷ 0x00 ∷ 0xc4 ∷ 0x09 ∷ 0x04 ∷ 0x00 ∷ 0x03 ∷ 0x00 ∷ 0xe8 ∷ 0x03 ∷ 0x01 ∷ 0x00 ∷ 0x44 ∷ 0x04 ∷ 0x00 ∷ 0x00 ∷ 0x00 ∷ 0xc5 ∷ 0x09 ∷ []) ≡ ascii "record=1\nkind=6\ngroups=0\ndirection=0\nspeed=2500\nrefused=31\nrecord=2\nkind=6\ngroups=0\ndirection=0\nspeed=2501\n")
 unfolding listing from-kind notifications begins collect joins part-of values read-into number record-lines head-lines refused-line field-line line decimal integer name names layout has named size groups-of listed treadmill cross-trainer step-climber stair-climber rower indoor-bike tables
 samples = (refl, refl, refl, refl, refl, refl, refl, refl, refl)
+
+-- "36: capture above 65,536 octets", "36, then 11, are judged first": one octet more, and of no kind; and 65,536 octets, of one notification of 65,533, which is refused with 30
+pub bounds : (listing (0x07 ∷ replicate 65536 0) ≡ ascii "refused=36\n") × (listing (0x06 ∷ 0xfd ∷ 0xff ∷ replicate 65533 0) ≡ ascii "refused=30\n")
+unfolding listing from-kind notifications begins collect part-of number refused-line line decimal
+bounds = (refl, refl)
