@@ -6,7 +6,7 @@ local was computed from. A turn left out: a loop's first, or its last. Two early
 import random
 import time
 
-from edits import PRINTING, RELYING, body, closed, tokens_of
+from edits import KEYWORDS, PRINTING, RELYING, body, closed, tokens_of
 from proving import short, told
 
 ASSIGN = {"=", "+=", "-="}
@@ -64,9 +64,9 @@ def statements(text, tokens):
 
 
 def arguments(text, tokens):
-    """Calls with two arguments or more: any two neighbours exchanged."""
+    """Calls of functions with two arguments or more: any two neighbours exchanged."""
     for i in range(1, len(tokens)):
-        if tokens[i].text == "(" and tokens[i - 1].kind == "word" and tokens[i - 1].text not in ("if", "while", "match", "return", "in"):
+        if tokens[i].text == "(" and tokens[i - 1].text[0].islower() and tokens[i - 1].text not in KEYWORDS:
             runs = [run for run in split_at(tokens[i + 1:closed(tokens, i) - 1], ",") if run]
             for first, second in zip(runs, runs[1:]):
                 a, b = text_of(text, first), text_of(text, second)
@@ -154,10 +154,10 @@ def judge(copy, site, new):
 def try_larger(copy, source, asked):
     """A sample of each rule; an edit that is no program is passed over."""
     copy.together()
-    draw, rows, tally = random.Random(asked.seed), [], {}
+    rows, tally = [], {}
     for rule, sites in larger_sites(source).items():
+        draw, judged = random.Random(f"{asked.seed} {rule}"), 0
         draw.shuffle(sites)
-        judged = 0
         for site in sites:
             new = draw.choice(site.candidates)
             if judged == EACH or asked.only not in rule:

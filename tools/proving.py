@@ -35,13 +35,6 @@ class Copy:
     def path(self, file):
         return os.path.join(self.where, "crates", file)
 
-    def rests_on(self, name):
-        """A crate and all below it."""
-        found = {name}
-        for other in self.below.get(name, []):
-            found |= self.rests_on(other)
-        return found
-
     def run(self, *words):
         """What a command of `rt` says, and its exit status: none where it was stopped."""
         run = subprocess.Popen(["rt", *words], cwd=self.where, stdout=subprocess.PIPE, stderr=subprocess.STDOUT, text=True,
