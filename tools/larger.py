@@ -82,7 +82,8 @@ def stale(text, names, tokens):
             continue
         at = i + 2 if tokens[i + 1].text == "mut" else i + 1
         name, end = tokens[at].text, next(j for j in range(at, len(tokens)) if tokens[j].text == ";")
-        used = {t.text for k, t in enumerate(tokens[at + 1:end], at + 1) if t.text in known and tokens[k - 1].text != "." and tokens[k + 1].text not in ("(", "::", ":")}
+        used = {tokens[k].text for k in range(at + 1, end)
+                if tokens[k].text in known and tokens[k - 1].text != "." and tokens[k + 1].text not in ("(", "::", ":")}
         for k in range(end, len(tokens)):
             if tokens[k].text == name and tokens[k - 1].text not in (".", "let", "mut") and tokens[k + 1].text not in (":", "=", "+=", "-=", "("):
                 if used - {name}:
@@ -102,7 +103,8 @@ def turns(text, tokens):
             open_ = next(j for j in range(i, len(tokens)) if tokens[j].text == "{")
             less = [j for j in range(i, open_) if tokens[j].text == "<"]
             if less:
-                yield tokens[i + 1].start, tokens[open_ - 1].end, [text_of(text, tokens[i + 1:less[0]]) + " + 1 < " + text_of(text, tokens[less[0] + 1:open_])]
+                low, high = text_of(text, tokens[i + 1:less[0]]), text_of(text, tokens[less[0] + 1:open_])
+                yield tokens[i + 1].start, tokens[open_ - 1].end, [f"{low} + 1 < {high}"]
 
 
 def early(tokens, i):
@@ -136,8 +138,9 @@ def larger_sites(source):
             continue
         text = source.text[file]
         for names, tokens in functions(tokens_of(text)):
-            for rule, sites in zip(found, (statements(text, tokens), arguments(text, tokens), stale(text, names, tokens), turns(text, tokens), returns(text, tokens))):
-                found[rule] += [Larger(rule, file, text, *site) for site in sites]
+            sites = (statements(text, tokens), arguments(text, tokens), stale(text, names, tokens), turns(text, tokens), returns(text, tokens))
+            for rule, some in zip(found, sites):
+                found[rule] += [Larger(rule, file, text, *site) for site in some]
     return found
 
 
