@@ -6,7 +6,7 @@ local was computed from. A turn left out: a loop's first, or its last. Two early
 import random
 import time
 
-from edits import PRINTING, RELYING, body, closed, tokens_of
+from edits import KEYWORDS, PRINTING, RELYING, body, closed, tokens_of
 from proving import short, told
 
 ASSIGN = {"=", "+=", "-="}
@@ -64,9 +64,9 @@ def statements(text, tokens):
 
 
 def arguments(text, tokens):
-    """Calls with two arguments or more: any two neighbours exchanged."""
+    """Calls of functions with two arguments or more: any two neighbours exchanged."""
     for i in range(1, len(tokens)):
-        if tokens[i].text == "(" and tokens[i - 1].kind == "word" and tokens[i - 1].text not in ("if", "while", "match", "return", "in"):
+        if tokens[i].text == "(" and tokens[i - 1].text[0].islower() and tokens[i - 1].text not in KEYWORDS:
             runs = [run for run in split_at(tokens[i + 1:closed(tokens, i) - 1], ",") if run]
             for first, second in zip(runs, runs[1:]):
                 a, b = text_of(text, first), text_of(text, second)
@@ -82,7 +82,8 @@ def stale(text, names, tokens):
             continue
         at = i + 2 if tokens[i + 1].text == "mut" else i + 1
         name, end = tokens[at].text, next(j for j in range(at, len(tokens)) if tokens[j].text == ";")
-        used = {t.text for k, t in enumerate(tokens[at + 1:end], at + 1) if t.text in known and tokens[k - 1].text != "." and tokens[k + 1].text not in ("(", "::", ":")}
+        used = {tokens[k].text for k in range(at + 1, end)
+                if tokens[k].text in known and tokens[k - 1].text != "." and tokens[k + 1].text not in ("(", "::", ":")}
         for k in range(end, len(tokens)):
             if tokens[k].text == name and tokens[k - 1].text not in (".", "let", "mut") and tokens[k + 1].text not in (":", "=", "+=", "-=", "("):
                 if used - {name}:
@@ -102,7 +103,8 @@ def turns(text, tokens):
             open_ = next(j for j in range(i, len(tokens)) if tokens[j].text == "{")
             less = [j for j in range(i, open_) if tokens[j].text == "<"]
             if less:
-                yield tokens[i + 1].start, tokens[open_ - 1].end, [text_of(text, tokens[i + 1:less[0]]) + " + 1 < " + text_of(text, tokens[less[0] + 1:open_])]
+                low, high = text_of(text, tokens[i + 1:less[0]]), text_of(text, tokens[less[0] + 1:open_])
+                yield tokens[i + 1].start, tokens[open_ - 1].end, [f"{low} + 1 < {high}"]
 
 
 def early(tokens, i):
@@ -136,8 +138,9 @@ def larger_sites(source):
             continue
         text = source.text[file]
         for names, tokens in functions(tokens_of(text)):
-            for rule, sites in zip(found, (statements(text, tokens), arguments(text, tokens), stale(text, names, tokens), turns(text, tokens), returns(text, tokens))):
-                found[rule] += [Larger(rule, file, text, *site) for site in sites]
+            sites = (statements(text, tokens), arguments(text, tokens), stale(text, names, tokens), turns(text, tokens), returns(text, tokens))
+            for rule, some in zip(found, sites):
+                found[rule] += [Larger(rule, file, text, *site) for site in some]
     return found
 
 
@@ -154,10 +157,10 @@ def judge(copy, site, new):
 def try_larger(copy, source, asked):
     """A sample of each rule; an edit that is no program is passed over."""
     copy.together()
-    draw, rows, tally = random.Random(asked.seed), [], {}
+    rows, tally = [], {}
     for rule, sites in larger_sites(source).items():
+        draw, judged = random.Random(f"{asked.seed} {rule}"), 0
         draw.shuffle(sites)
-        judged = 0
         for site in sites:
             new = draw.choice(site.candidates)
             if judged == EACH or asked.only not in rule:

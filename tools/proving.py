@@ -11,7 +11,9 @@ import time
 from edits import LIBRARIES, RELYING
 
 LIMIT = 600  # seconds for one check
-TOP, UNDER = "demands", ["record", "service", "text", "listing", "phone", "reference"]  # checked in one run: the top library, over the others as source
+
+# The libraries that are checked in one run: the top one, over the others as source.
+TOP, UNDER = "demands", ["record", "service", "text", "listing", "phone", "reference"]
 ROOT = os.path.dirname(os.path.dirname(os.path.abspath(__file__)))
 
 
@@ -34,13 +36,6 @@ class Copy:
 
     def path(self, file):
         return os.path.join(self.where, "crates", file)
-
-    def rests_on(self, name):
-        """A crate and all below it."""
-        found = {name}
-        for other in self.below.get(name, []):
-            found |= self.rests_on(other)
-        return found
 
     def run(self, *words):
         """What a command of `rt` says, and its exit status: none where it was stopped."""
@@ -69,15 +64,16 @@ class Copy:
         return "undecided", f"no answer in {LIMIT} s" if status is None else f"exit {status}", said
 
     def together(self):
-        """Has the libraries checked in one run from now on, so that what an edit does not touch is not checked again: the top one stands alone in crates.txt."""
+        """Has the libraries checked in one run from now on, so that what an edit does not touch is not checked again."""
         path = os.path.join(self.where, "crates.txt")
         lines = open(path).read()
-        with open(path, "w") as out:
+        with open(path, "w") as out:  # the top one stands alone there, and is given the others
             out.write(re.sub(rf"^{TOP}:.*$", f"{TOP}:", lines, flags=re.M))
         self.words = [word for name in UNDER for word in ("--lib", f"{name}:{','.join(self.below[name])}=crates/{name}/src/lib.rt")]
         began = time.time()
         verdict, where, _ = self.check_all()
-        print(f"the libraries as they stand: {'proved' if verdict == 'survived' else verdict + ' ' + where} ({time.time() - began:.0f} s)", flush=True)
+        word = "proved" if verdict == "survived" else verdict + " " + where
+        print(f"the libraries as they stand: {word} ({time.time() - began:.0f} s)", flush=True)
         if verdict != "survived":
             sys.exit("strength: a library is not proved before any edit")
 

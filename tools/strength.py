@@ -9,18 +9,18 @@
     python3 tools/strength.py --list            the places that the sample is drawn from, and proves nothing
 
     -n N           how many edits are judged            --seed S       another sample
-    --copy DIR     the copy to work in (target/strength) --only WORD   the wrong programs or twins whose name has this word, or a rule of --larger
+    --copy DIR     the copy to work in (target/strength) --only WORD   the wrong programs, twins or rules of --larger with this word
     --skip WORDS   the sample leaves out files with one of these words in their name (a comma between two)
     --run          for each twin, a program too whose output is another
     --report FILE  the table, in Markdown
 
 An edit is made in a copy of the repository and checked there by `rt dev`, and the file is put back. `refused`: the prover does not prove the code.
-`no program`: the compiler takes no such text; the edit says nothing, and another is drawn. `survived`: the crate is still proved, and so is every library
-above it, and `ftlist`. One prover runs at a time; what it said last is in the copy's target/last.out. The exit status is 0 where nothing survived.
+`no program`: the compiler takes no such text; the edit says nothing, and another is drawn. `survived`: the crate is still proved, and so is every
+library above it, and `ftlist`. One prover runs at a time; what it said last is in the copy's target/last.out. The exit status is 0 where nothing survived.
 
-A twin is `by computation` where a theorem is false whose proof is that both sides compute to the same, and `by a law` where another one is refused; the
-programs are then run in any case. `UNNOTICED`: all is proved, and no program writes anything else. `not carried through`: a function is not proved, so that the edit
-of its own proof is missing; then, as where a twin is unnoticed, the exit status is 1.
+A twin is noticed `by computation` where a theorem is false whose proof is that both sides compute to the same, and `by a law` where another one is
+refused; the programs are then run in any case. `UNNOTICED`: all is proved, and no program writes anything else. `not carried through`: a function is
+not proved, so that an edit of its own proof is missing. Then, as where a twin is unnoticed, the exit status is 1.
 """
 import argparse
 import os

@@ -1,11 +1,11 @@
 """Twins: one wrong reading of document 01 in specs/ and in the code alike. tools/strength.py asks which theorem and which run notices each.
 
-A twin is carried into the proofs of the functions where those name the case, so that the prover takes every function: each meets its contract, which is wrong.
-What the prover then refuses is a theorem: a number of document 01 by computation, or a law in other words.
+A twin is carried into the proofs of the functions where those name the case, so that the prover takes every function: each meets its contract, which
+is wrong. What the prover then refuses is a theorem: a number of document 01 by computation, or a law in other words.
 
-The twins stand in tools/twins/. A head: the part of document 01, and what is wrong. Below it document 01's words; then each file with its edits: the old text, which
-stands there once, ⇒, the new. A text of more than one line has - in front of each old line and + in front of each new one; + alone makes a file. `every` in
-front of a text says that it is changed wherever it stands.
+The twins stand in tools/twins/. A head: the part of document 01, and what is wrong. Below it document 01's words; then each file with its edits: the
+old text, which stands there once, ⇒, the new. A text of more than one line has - in front of each old line and + in front of each new one; + alone
+makes a file. `every` in front of a text says that it is changed wherever it stands.
 """
 import os
 import re
@@ -63,8 +63,13 @@ def twins_of(path):
         else:
             sys.exit(f"strength: {path}:{number}: not a line of a twin")
     for twin in found:
-        twin.edits = [(file, *("\n".join(text) if isinstance(text, list) else text for text in pair), everywhere) for file, *pair, everywhere in twin.edits]
+        twin.edits = [(file, joined(old), joined(new), everywhere) for file, old, new, everywhere in twin.edits]
     return found
+
+
+def joined(text):
+    """A text that may be given line by line."""
+    return "\n".join(text) if isinstance(text, list) else text
 
 
 class Verdict:
@@ -100,13 +105,16 @@ def modules(copy):
     """The modules of all crates, each with those that it names: a crate's first folders and files count as modules."""
     graph = {}
     for crate in copy.below:
-        for folder, _, bases in os.walk(copy.path(crate + "/src")):
+        top = copy.path(crate + "/src")
+        for folder, _, bases in os.walk(top):
             for base in bases:
-                text = open(os.path.join(folder, base)).read()
+                path = os.path.join(folder, base)
+                text = open(path).read()
                 names = {(crate if first == "crate" else first, second) for first, second in re.findall(r"\b(\w+)::(\w+)", text)}
                 if base == "main.rt":
                     names |= {(crate, name) for name in re.findall(r"^mod (\w+);", text, re.M)}
-                graph.setdefault((crate, os.path.relpath(os.path.join(folder, base), copy.path(crate + "/src")).split("/")[0].removesuffix(".rt")), set()).update(names)
+                module = os.path.relpath(path, top).split("/")[0].removesuffix(".rt")
+                graph.setdefault((crate, module), set()).update(names)
     return graph
 
 
@@ -176,5 +184,6 @@ def try_twins(copy, only, run, report):
     print(f"{len(twins)} twins: " + ", ".join(f"{n} {word}" for word, n in sorted(tally.items())))
     if report:
         with open(report, "w") as out:
-            out.write("| document 01 | the wrong reading, in specs/ and code | theorems that notice | a program that notices |\n|---|---|---|---|\n" + "\n".join(rows) + "\n")
+            head = "| document 01 | the wrong reading, in `specs/` and code | theorems that notice | a program that notices |\n|---|---|---|---|\n"
+            out.write(head + "\n".join(rows) + "\n")
     return good
