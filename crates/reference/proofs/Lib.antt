@@ -1,2 +1,3 @@
+mod Bits
 pub mod Lines
 pub mod Once

@@ -1,27 +1,29 @@
 -- Lines of the tables, by computation: document 01's order, widths and units, and the lengths of its own numbers.
 use mathlib.Core.Path.{_≡_, refl}
+use mathlib.Core.List.{_++_, map}
 use lib.ListN.{getD}
+use Rattle.record.specs.declared.layout.Row.{Row}
 use Rattle.record.specs.Layout.{layout, no-row, tables, treadmill, cross-trainer, step-climber, indoor-bike}
 use Rattle.record.specs.Groups.{has, named, size, groups-of, listed}
 use Rattle.text.specs.Names.{names, name, bare}
 use Rattle.text.specs.Text.{ascii, decimal}
-use Rattle.reference.specs.Tables.{group-word, row-names, row-place, row-line, kind-word, title, sizes}
+use Rattle.reference.specs.Tables.{group-word, unit-word, unit-cell, flag-line, other-flags, bit-lines, row-names, row-place, row-line, kind-word, title, sizes}
 
 -- "Slope is inclination s16, in tenths of a percent, then ramp angle s16, in tenths of a degree." "Gain is positive u16, then negative u16."
 pub treadmill-lines :
-    (row-line 1 9 (getD (layout 1) 3 no-row) ≡ ascii "| 3 | slope | inclination | s16 | 9 | tenths of a percent |\n") ×
-    (row-line 1 11 (getD (layout 1) 4 no-row) ≡ ascii "| 3 | slope | ramp_angle | s16 | 11 | tenths of a degree |\n") ×
-    (row-line 1 13 (getD (layout 1) 5 no-row) ≡ ascii "| 4 | gain | positive_gain | u16 | 13 | |\n") ×
-    (row-line 1 15 (getD (layout 1) 6 no-row) ≡ ascii "| 4 | gain | negative_gain | u16 | 15 | |\n")
-unfolding layout tables treadmill has named size names name bare decimal group-word row-names row-place row-line
+    (row-line 1 9 (getD (layout 1) 3 no-row) ≡ ascii "| bit 3 is 1 | slope | inclination | s16 | 9 | tenths of a percent |\n") ×
+    (row-line 1 11 (getD (layout 1) 4 no-row) ≡ ascii "| bit 3 is 1 | slope | ramp_angle | s16 | 11 | tenths of a degree |\n") ×
+    (row-line 1 13 (getD (layout 1) 5 no-row) ≡ ascii "| bit 4 is 1 | gain | positive_gain | u16 | 13 | |\n") ×
+    (row-line 1 15 (getD (layout 1) 6 no-row) ≡ ascii "| bit 4 is 1 | gain | negative_gain | u16 | 15 | |\n")
+unfolding layout tables treadmill has named size names name bare decimal group-word row-names unit-cell row-place row-line
 treadmill-lines = (refl, refl, refl, refl)
 
 -- a group of one field has the field's name, the main group is `main`, and fields that stand together name theirs
 pub other-lines :
-    (row-line 3 4 (getD (layout 3) 1 no-row) ≡ ascii "| 0 | main | steps | u16 | 4 | |\n") ×
-    (row-line 3 10 (getD (layout 3) 4 no-row) ≡ ascii "| 3 | positive_gain | positive_gain | u16 | 10 | |\n") ×
-    (row-line 2 12 (getD (layout 2) 4 no-row) ≡ ascii "| 3 | step_rate and average_step_rate | average_step_rate | u16 | 12 | |\n")
-unfolding layout tables step-climber cross-trainer has named size names name bare decimal group-word row-names row-place row-line
+    (row-line 3 4 (getD (layout 3) 1 no-row) ≡ ascii "| bit 0 is 0 | main | steps | u16 | 4 | |\n") ×
+    (row-line 3 10 (getD (layout 3) 4 no-row) ≡ ascii "| bit 3 is 1 | positive_gain | positive_gain | u16 | 10 | |\n") ×
+    (row-line 2 12 (getD (layout 2) 4 no-row) ≡ ascii "| bit 3 is 1 | step_rate and average_step_rate | average_step_rate | u16 | 12 | |\n")
+unfolding layout tables step-climber cross-trainer has named size names name bare decimal group-word row-names unit-cell row-place row-line
 other-lines = (refl, refl, refl)
 
 -- the indoor bike's 30 octets at payload 30, in one part; and the cross trainer's 18, 20 and 9 less two times its flags
@@ -31,3 +33,23 @@ pub all-groups :
     (title 2 ≡ ascii "# Kind 2: cross trainer\n\n")
 unfolding layout tables cross-trainer indoor-bike has named size groups-of listed decimal kind-word title sizes
 all-groups = (refl, refl, refl)
+
+-- the units: of every kind but the indoor bike, as document 01 and source document 000 give them; a bike's table has no column of units
+pub units :
+    (unit-cell 2 22 ≡ ascii " | steps per minute |\n") ×
+    (unit-cell 5 11 ≡ ascii " | time per 500 meters |\n") ×
+    (unit-cell 5 12 ≡ ascii " | time per 500 meters |\n") ×
+    (unit-cell 1 11 ≡ ascii " | |\n") ×
+    (row-line 6 2 (getD (layout 6) 0 no-row) ≡ ascii "| bit 0 is 0 | main | speed | u16 | 2 |\n") ×
+    (map (λ (r : Row). unit-word 6 (r .1)) (layout 6) ≡ map (λ (r : Row). "") (layout 6))
+unfolding layout tables indoor-bike has named size names name bare decimal group-word row-names unit-cell row-place row-line
+units = (refl, refl, refl, refl, refl, refl)
+
+-- the flags behind More Data: each group's bit once, under the group's name; then what is reserved, and the direction of kind 2
+pub flag-samples :
+    (bit-lines 3 ≡ ascii "| 1 | step_rate is present |\n| 2 | average_step_rate is present |\n| 3 | positive_gain is present |\n"
+    ++ ascii "| 4 | energy is present |\n| 5 | heart_rate is present |\n| 6 | metabolic_equivalent is present |\n"
+    ++ ascii "| 7 | elapsed is present |\n| 8 | remaining is present |\n| 9 to 15 | reserved: written 0, ignored when read |\n") ×
+    (other-flags 2 14 ≡ ascii "| 15 | direction: 0 forward, 1 backward |\n| 16 to 23 | reserved: written 0, ignored when read |\n")
+unfolding layout tables step-climber has named size names name bare decimal group-word flag-line other-flags bit-lines
+flag-samples = (refl, refl)

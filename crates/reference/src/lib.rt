@@ -1,3 +1,4 @@
 // The reference's pages: the table of each kind, printed from the rows that reading and splitting run on.
+pub mod flags;
 pub mod tables;
 pub mod words;

@@ -1,6 +1,8 @@
 // The table of a kind: a line for each row of its layout, in the order of the wire.
+use crate::flags::put_flags;
 use crate::words::put_group;
-use crate::words::put_unit;
+use crate::words::put_present;
+use crate::words::put_unit_cell;
 use crate::words::put_width;
 use record::groups::flags_length;
 use record::groups::groups_length;
@@ -19,29 +21,44 @@ use text::names::put_field;
 use text::text::put_bytes;
 use text::text::put_decimal;
 ghost use Rattle.text.specs.Text.{Wrote, ascii};
-ghost use Rattle.reference.specs.Tables.{row-names, row-place, row-line, table, kind-word, title, sizes, page};
+ghost use Rattle.reference.specs.Tables.{row-names, row-place, row-line, table, columns, kind-word, title, sizes, page};
 
-// The table's own heading.
-const COLUMNS: [u8; 73] =
-    *b"| bit | group | field | width | octet | unit |\n|---|---|---|---|---|---|\n";
+// The columns' names: the indoor bike's table has no units.
+fn put_columns(out: &mut [u8], at: usize, kind: u8) -> usize
+    ensures { λ r. ⌜ Wrote (now (out .entry)) at (columns kind) (now (out .exit)) r ⌝ }
+{
+    if kind == INDOOR_BIKE {
+        return put_bytes(
+            out,
+            at,
+            b"| present when | group | field | width | octet |\n|---|---|---|---|---|\n",
+        );
+    }
+    put_bytes(
+        out,
+        at,
+        b"| present when | group | field | width | octet | unit |\n|---|---|---|---|---|---|\n",
+    )
+}
 
-// The first cells of a row: bit, group, field.
+// The first cells of a row: when its group is present, group, field.
 fn put_names(out: &mut [u8], at: usize, kind: u8, row: Row) -> usize
     ensures { λ r. ⌜ Wrote (now (out .entry)) at (row-names kind row) (now (out .exit)) r ⌝ }
 {
-    let bit = row.0 as u32;
+    let bit = row.0;
+    let number = bit as u32;
     let field = row.1 as usize;
-    let a = put_bytes(out, at, b"| ");
-    let b = put_decimal(out, a, bit);
-    let c = put_bytes(out, b, b" | ");
+    let a = put_bytes(out, at, b"| bit ");
+    let b = put_decimal(out, a, number);
+    let c = put_present(out, b, bit);
     let d = put_group(out, c, kind, row);
     let e = put_bytes(out, d, b" | ");
     put_field(out, e, field)
 }
 
 // The other cells: width, octet, unit.
-fn put_place(out: &mut [u8], at: usize, offset: u32, row: Row) -> usize
-    ensures { λ r. ⌜ Wrote (now (out .entry)) at (row-place offset row) (now (out .exit)) r ⌝ }
+fn put_place(out: &mut [u8], at: usize, kind: u8, offset: u32, row: Row) -> usize
+    ensures { λ r. ⌜ Wrote (now (out .entry)) at (row-place kind offset row) (now (out .exit)) r ⌝ }
 {
     let field = row.1;
     let width = row.2;
@@ -49,9 +66,7 @@ fn put_place(out: &mut [u8], at: usize, offset: u32, row: Row) -> usize
     let b = put_width(out, a, width);
     let c = put_bytes(out, b, b" | ");
     let d = put_decimal(out, c, offset);
-    let e = put_bytes(out, d, b" | ");
-    let f = put_unit(out, e, field);
-    put_bytes(out, f, b"|\n")
+    put_unit_cell(out, d, kind, field)
 }
 
 // The line of a row whose field begins at an octet.
@@ -59,7 +74,7 @@ fn put_row(out: &mut [u8], at: usize, kind: u8, offset: u32, row: Row) -> usize
     ensures { λ r. ⌜ Wrote (now (out .entry)) at (row-line kind offset row) (now (out .exit)) r ⌝ }
 {
     let next = put_names(out, at, kind, row);
-    put_place(out, next, offset, row)
+    put_place(out, next, kind, offset, row)
 }
 
 // The lines of a kind's rows, in the order of the wire, each with the octet at which its field begins when all groups are present.
@@ -117,12 +132,15 @@ fn put_sizes(out: &mut [u8], at: usize, kind: u8) -> usize
     put_bytes(out, d, b" octets.\n\n")
 }
 
-// The page of a kind: its heading, its sizes and its table.
+// The page of a kind: its heading, its sizes, its flags and its fields.
 pub fn put_page(out: &mut [u8], at: usize, kind: u8) -> usize
     ensures { λ r. ⌜ Wrote (now (out .entry)) at (page kind) (now (out .exit)) r ⌝ }
 {
     let a = put_title(out, at, kind);
     let b = put_sizes(out, a, kind);
-    let c = put_bytes(out, b, &COLUMNS);
-    put_table(out, c, kind)
+    let c = put_bytes(out, b, b"## Flags\n\n");
+    let d = put_flags(out, c, kind);
+    let e = put_bytes(out, d, b"\n## Fields\n\n");
+    let f = put_columns(out, e, kind);
+    put_table(out, f, kind)
 }

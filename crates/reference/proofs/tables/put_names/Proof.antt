@@ -12,9 +12,9 @@ returns c =
     let p5 = p6 .before .before .before .before in
     let p4 = p5 .before .before .before .before .before in
     let p3 = p4 .before .before .before .before in
-    let p2 = p3 .before .before .before .before .before in
+    let p2 = p3 .before .before .before .before in
     let p1 = p2 .before .before .before .before in
-    then (then (then (then (then (p1 .put-bytes .ensures) (p2 .put-decimal .ensures)) (p3 .put-bytes2 .ensures)) (p4 .put-group .ensures)) (p5 .put-bytes3 .ensures)) (p6 .put-field .ensures)
+    then (then (then (then (then (p1 .put-bytes .ensures) (p2 .put-decimal .ensures)) (p3 .put-present .ensures)) (p4 .put-group .ensures)) (p5 .put-bytes2 .ensures)) (p6 .put-field .ensures)
 
 pub put-names-spec : {M : Type 1} → statement M
 put-names-spec =
@@ -25,7 +25,6 @@ put-names-spec =
     (λ c. search needs)
     (λ c κs. search needs)
     (λ c κs. search needs)
-    (λ c. search needs)
     (λ c κs. search needs)
     (λ c κs. search needs)
     (λ c. search needs)

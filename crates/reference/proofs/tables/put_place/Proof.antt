@@ -8,14 +8,12 @@ use Rattle.reference.proofs.tables.put_place.Tie as tie
 returns : tie.Need-returns
 unfolding row-place
 returns c =
-    let p7 = c .before .before in
-    let p6 = p7 .before .before .before .before .before in
-    let p5 = p6 .before .before .before .before in
-    let p4 = p5 .before .before .before .before .before in
+    let p5 = c .before .before in
+    let p4 = p5 .before .before .before .before in
     let p3 = p4 .before .before .before .before in
     let p2 = p3 .before .before .before .before .before in
     let p1 = p2 .before .before .before .before in
-    then (then (then (then (then (then (p1 .put-bytes .ensures) (p2 .put-width .ensures)) (p3 .put-bytes2 .ensures)) (p4 .put-decimal .ensures)) (p5 .put-bytes3 .ensures)) (p6 .put-unit .ensures)) (p7 .put-bytes4 .ensures)
+    then (then (then (then (p1 .put-bytes .ensures) (p2 .put-width .ensures)) (p3 .put-bytes2 .ensures)) (p4 .put-decimal .ensures)) (p5 .put-unit-cell .ensures)
 
 pub put-place-spec : {M : Type 1} → statement M
 put-place-spec =
@@ -27,10 +25,6 @@ put-place-spec =
     (λ c. search needs)
     (λ c κs. search needs)
     (λ c κs. search needs)
-    (λ c. search needs)
-    (λ c κs. search needs)
-    (λ c κs. search needs)
-    (λ c. search needs)
     (λ c κs. search needs)
     (λ c. search needs)
     returns)

@@ -1,9 +1,7 @@
 -- `put_unit` meets its contract. Assumes nothing.
-use native.Mathlib.Omega.{arith}
 use borrow.Author.Needs.{needs}
 use borrow.Author.Tests.{eq-eqb, ne-eqb}
 use Rattle.record.specs.Layout.{inclination, ramp-angle}
-use Rattle.text.proofs.Writing.{nothing}
 use Rattle.reference.proofs.words.put_unit.Statement.{statement}
 use Rattle.reference.proofs.words.put_unit.Tie as tie
 
@@ -19,7 +17,10 @@ returns-2 c =
     rw (ne-eqb _ inclination (t .before .if1 .left), eq-eqb _ ramp-angle (t .if2 .taken)) (d .put-bytes2 .ensures)
 
 returns-3 : tie.Need-returns-3
-returns-3 c = rw (ne-eqb _ inclination (c .before .if1 .left), ne-eqb _ ramp-angle (c .if2 .left)) (nothing _ _ (omega arith) (omega arith))
+returns-3 c =
+    let d = c .before .before in
+    let t = d .before .before in
+    rw (ne-eqb _ inclination (t .before .if1 .left), ne-eqb _ ramp-angle (t .if2 .left)) (d .put-rate .ensures)
 
 pub put-unit-spec : {M : Type 1} → statement M
 put-unit-spec =
@@ -33,4 +34,6 @@ put-unit-spec =
     (λ c κs. search needs)
     (λ c. search needs)
     returns-2
+    (λ c κs. search needs)
+    (λ c. search needs)
     returns-3)
