@@ -106,6 +106,11 @@ pub(crate) fn writing(step: u8) -> u8 {
     number_of(outcome)
 }
 
+// A console whose client 0 holds control, with no response due.
+pub(crate) fn holding() -> Console {
+    awaiting().confirm(0).console
+}
+
 // A console whose client 0 holds control and where client 1 can write too; its machine runs before a step, and from it on is stopped.
 fn halted(step: u8, from: u8) -> Console {
     let holding = confirmed(from, from).indicate(1, true).console;

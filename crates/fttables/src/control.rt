@@ -1,8 +1,5 @@
-// The page of the control point.
+// The op codes of the control point, and the results of a write.
 use crate::clients::resulting;
-use crate::feature::put_feature;
-use crate::orders::put_orders;
-use crate::refusals::put_refusals;
 use crate::words::put_bar;
 use crate::words::put_close;
 use crate::words::put_comma;
@@ -114,34 +111,27 @@ fn put_needs(out: &mut [u8], at: usize, code: OpCode) -> usize {
     put_need(out, d, need)
 }
 
-// The next cell: the response up to its result.
-fn put_response(out: &mut [u8], at: usize, op: u8) -> usize {
-    let a = put_bytes(out, at, b" | 80 ");
-    let b = put_hex(out, a, op);
-    put_bytes(out, b, b" ")
-}
-
 // The cells of an op code that the table has.
-fn put_known(out: &mut [u8], at: usize, op: u8, code: OpCode) -> usize {
+fn put_known(out: &mut [u8], at: usize, code: OpCode) -> usize {
     let status = code.status;
     let a = put_needs(out, at, code);
-    let b = put_response(out, a, op);
-    let c = put_bytes(out, b, b"and the result | ");
-    put_status(out, c, status)
+    let b = put_bar(out, a);
+    put_status(out, b, status)
 }
 
-// The cells of an op code that the table does not have: a dash for what is not said of it, and the one result that it gets.
+// The cells of an op code that the table does not have: a dash for what is not said of it, and the one response that it gets.
 fn put_unknown(out: &mut [u8], at: usize, op: u8) -> usize {
     let result = WriteResult::NotSupported;
-    let a = put_bytes(out, at, b"- | - | - | not supported");
-    let b = put_response(out, a, op);
-    let c = put_hex(out, b, result.number());
-    put_bytes(out, c, b" | -")
+    let a = put_bytes(out, at, b"- | - | - | not supported: 80 ");
+    let b = put_hex(out, a, op);
+    let c = put_bytes(out, b, b" ");
+    let d = put_hex(out, c, result.number());
+    put_bytes(out, d, b" | -")
 }
 
 fn put_cells(out: &mut [u8], at: usize, op: u8) -> usize {
     match op_code(op) {
-        Lookup::Known(code) => put_known(out, at, op, code),
+        Lookup::Known(code) => put_known(out, at, code),
         Lookup::Unknown => put_unknown(out, at, op),
     }
 }
@@ -165,7 +155,7 @@ fn put_op_codes(out: &mut [u8], at: usize) -> usize {
     let mut next = put_bytes(
         out,
         at,
-        b"\n## Op codes\n\n| op code | name | parameter | octets | range | target bit | response | status where it succeeds |\n|---|---|---|---|---|---|---|---|\n",
+        b"\n## Op codes\n\n| op code | name | parameter | octets | range | target bit | status where it succeeds |\n|---|---|---|---|---|---|---|\n",
     );
     for op in 0..OP_CODES {
         next = put_op_code(out, next, op);
@@ -191,7 +181,7 @@ fn put_results(out: &mut [u8], at: usize) -> usize {
     let mut next = put_bytes(
         out,
         at,
-        b"\n## Results\n\nThe first that applies:\n\n| result | given when |\n|---|---|\n",
+        b"\n## Results\n\n| result | given when |\n|---|---|\n",
     );
     for which in 0..RESULTS {
         next = put_result(out, next, which);
@@ -200,10 +190,7 @@ fn put_results(out: &mut [u8], at: usize) -> usize {
 }
 
 pub(crate) fn put_control(out: &mut [u8], at: usize) -> usize {
-    let a = put_bytes(out, at, b"# Control point\n");
-    let b = put_feature(out, a);
-    let c = put_op_codes(out, b);
-    let d = put_results(out, c);
-    let e = put_refusals(out, d);
-    put_orders(out, e)
+    let a = put_bytes(out, at, b"\n# Control point\n");
+    let b = put_op_codes(out, a);
+    put_results(out, b)
 }

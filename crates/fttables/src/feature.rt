@@ -1,4 +1,5 @@
 // The two words of the Feature value.
+use crate::words::print_word;
 use crate::words::put_bar;
 use crate::words::put_close;
 use crate::words::put_open;
@@ -6,6 +7,10 @@ use crate::words::put_word;
 use record::feature::Feature;
 use text::text::put_bytes;
 use text::text::put_decimal;
+
+// The names of the features, a line each.
+const FEATURES: [u8; 209] =
+    *b"average speed\ncadence\ndistance\ninclination\nelevation gain\npace\nstep count\nresistance\nstride count\nenergy\nheart rate\nmetabolic equivalent\nelapsed\nremaining\npower\nbelt force and power output\nuser data retention\n";
 
 // The line of a bit, with its name, one of some.
 fn put_bit(out: &mut [u8], at: usize, bit: u8, names: &[u8], which: u8) -> usize {
@@ -25,21 +30,21 @@ fn put_bits(out: &mut [u8], at: usize, bits: [u8; 17], names: &[u8]) -> usize {
     next
 }
 
+// Prints the name of a feature.
+pub(crate) fn print_feature(feature: u8) {
+    print_word(&FEATURES, feature);
+}
+
 fn put_features(out: &mut [u8], at: usize) -> usize {
-    let next = put_bytes(out, at, b"| bit of the features | name |\n|---|---|\n");
-    put_bits(
-        out,
-        next,
-        Feature::feature_bits(),
-        b"average speed\ncadence\ndistance\ninclination\nelevation gain\npace\nstep count\nresistance\nstride count\nenergy\nheart rate\nmetabolic equivalent\nelapsed\nremaining\npower\nbelt force and power output\nuser data retention\n",
-    )
+    let next = put_bytes(out, at, b"\n## Features\n\n| bit | name |\n|---|---|\n");
+    put_bits(out, next, Feature::feature_bits(), &FEATURES)
 }
 
 fn put_targets(out: &mut [u8], at: usize) -> usize {
     let next = put_bytes(
         out,
         at,
-        b"\n| bit of the target settings | name |\n|---|---|\n",
+        b"\n## Target settings\n\n| bit | name |\n|---|---|\n",
     );
     put_bits(
         out,
@@ -50,11 +55,7 @@ fn put_targets(out: &mut [u8], at: usize) -> usize {
 }
 
 pub(crate) fn put_feature(out: &mut [u8], at: usize) -> usize {
-    let a = put_bytes(
-        out,
-        at,
-        b"\n## Feature value\n\n8 octets: the features, then the target settings, each a u32. Other bits are written 0 and ignored when read.\n\n",
-    );
+    let a = put_bytes(out, at, b"# Feature value\n");
     let b = put_features(out, a);
     put_targets(out, b)
 }

@@ -1,8 +1,12 @@
-// Prints the reference in Markdown: a page for each kind, and one for the control point, from the tables that the proved code runs on.
+// Prints the tables of the reference in Markdown, from the tables that the proved code runs on and from what its calls answer.
+mod answers;
 mod calls;
 mod clients;
 mod control;
 mod feature;
+mod keys;
+mod kinds;
+mod machine;
 mod orders;
 mod parts;
 mod records;
@@ -10,28 +14,69 @@ mod refusals;
 mod steps;
 mod words;
 
+use crate::answers::print_answers;
 use crate::control::put_control;
-use crate::parts::put_parts;
+use crate::feature::put_feature;
+use crate::keys::print_keys;
+use crate::kinds::print_fields;
+use crate::kinds::print_kinds;
+use crate::machine::print_machine;
+use crate::orders::put_orders;
+use crate::parts::print_cut;
+use crate::parts::print_parts;
+use crate::refusals::put_refusals;
 use output::first;
 use output::print;
 use record::layout::INDOOR_BIKE;
 use record::layout::TREADMILL;
+use record::split::LEAST_PAYLOAD;
 use reference::tables::put_page;
 
-// A page for each kind.
-fn put_kinds(out: &mut [u8]) -> usize {
-    let mut next = 0;
+// No page of a kind is longer.
+const LONGEST: usize = 4096;
+
+// The page of a kind: its flags and fields, and its parts at the least payload.
+fn print_page(kind: u8) {
+    let mut text = [0u8; LONGEST];
+    let out: &mut [u8] = &mut text;
+    let n = put_page(out, 0, kind);
+    print(first(out, n));
+    print_parts(kind, LEAST_PAYLOAD);
+    print(b"\n");
+}
+
+fn print_pages() {
     for kind in TREADMILL..=INDOOR_BIKE {
-        next = put_page(out, next, kind);
-        next = put_parts(out, next, kind);
+        print_page(kind);
     }
-    next
+}
+
+// The tables that are written into one buffer.
+fn print_calls() {
+    let mut space = io::large_buffer();
+    let out: &mut [u8] = &mut space;
+    let a = put_feature(out, 0);
+    let b = put_control(out, a);
+    let c = put_refusals(out, b);
+    let d = put_orders(out, c);
+    print(first(out, d));
+}
+
+// An indoor bike with all groups: 29 octets are one too few for one part.
+fn print_splitting() {
+    print(b"\n# Splitting\n");
+    print_parts(INDOOR_BIKE, 29);
+    print_parts(INDOOR_BIKE, 30);
+    print_cut(INDOOR_BIKE, LEAST_PAYLOAD);
 }
 
 fn main() {
-    let mut space = io::large_buffer();
-    let out: &mut [u8] = &mut space;
-    let kinds = put_kinds(out);
-    let all = put_control(out, kinds);
-    print(first(out, all));
+    print_pages();
+    print_calls();
+    print_machine();
+    print_kinds();
+    print_fields();
+    print_answers();
+    print_splitting();
+    print_keys();
 }

@@ -44,11 +44,7 @@ fn put_order(out: &mut [u8], at: usize, call: u8) -> usize {
 
 // The table of the calls.
 pub(crate) fn put_orders(out: &mut [u8], at: usize) -> usize {
-    let mut next = put_bytes(
-        out,
-        at,
-        b"\nWhere several apply, the first of each call's order is given:\n\n| call | order |\n|---|---|\n",
-    );
+    let mut next = put_bytes(out, at, b"\n## Orders\n\n| call | order |\n|---|---|\n");
     for call in 0..CALLS {
         next = put_order(out, next, call);
     }

@@ -1,123 +1,154 @@
-// The parts of a record of each kind with all its groups, as the splitter cuts them.
-use crate::words::put_bar;
-use crate::words::put_close;
-use crate::words::put_open;
+// The parts of a record with all groups of its kind, as the splitter cuts them.
 use output::first;
+use output::print;
+use output::print_number;
+use output::print_octets;
 use record::groups::BITS;
 use record::groups::flags_length;
+use record::groups::groups_length;
 use record::groups::has;
 use record::groups::listed;
+use record::layout::CROSS_TRAINER;
 use record::notification::Part;
 use record::notification::PartAnswer;
 use record::notification::part_of;
-use record::split::LEAST_PAYLOAD;
 use record::split::MOST_PARTS;
 use record::split::SplitAnswer;
 use record::split::split_numbers;
-use text::text::LF;
-use text::text::put_byte;
-use text::text::put_bytes;
-use text::text::put_decimal;
-use text::text::put_hex;
 
-const SPACE: u8 = 32;
+// The longest payload of a table here.
+const LONGEST: usize = 30;
 
-// Octets in hex, a space before each.
-fn put_octets(out: &mut [u8], at: usize, octets: &[u8]) -> usize {
-    let mut next = at;
-    for i in 0..octets.len() {
-        next = put_byte(out, next, SPACE);
-        next = put_hex(out, next, octets[i]);
-    }
-    next
-}
+const FORWARD: u8 = 0;
+
+const BACKWARD: u8 = 1;
 
 // A bit, a space before it, where it is in a set.
-fn put_bit(out: &mut [u8], at: usize, set: u32, bit: u8) -> usize {
+fn print_bit(set: u32, bit: u8) {
     if has(set, bit) {
-        let next = put_byte(out, at, SPACE);
-        return put_decimal(out, next, bit as u32);
+        print_number(b" ", bit as u64);
     }
-    at
 }
 
-// The bits of a set.
-fn put_bits(out: &mut [u8], at: usize, set: u32) -> usize {
-    let mut next = at;
-    for bit in 0..BITS {
-        next = put_bit(out, next, set, bit);
+// The bits of a set of groups.
+fn print_bits(set: u32) {
+    for bit in 1..BITS {
+        print_bit(set, bit);
     }
-    next
 }
 
-// The groups that a part has, with bit 0 for the main group.
-fn groups_of(part: Part) -> u32 {
+// The groups of a part: `main` for the main group, and the others by their bits.
+fn print_groups(part: Part) {
     if part.last {
-        return part.groups | 1;
+        print(b" main");
     }
-    part.groups
+    print_bits(part.groups);
 }
 
-fn put_groups(out: &mut [u8], at: usize, kind: u8, octets: &[u8]) -> usize {
-    match part_of(kind, octets) {
-        PartAnswer::Part(part) => put_bits(out, at, groups_of(part)),
-        PartAnswer::Refused(_) => at,
-    }
-}
-
-// How many octets there are; a part has 20 at most here.
-fn length_of(octets: &[u8]) -> u32 {
-    if octets.len() <= LEAST_PAYLOAD {
-        return octets.len() as u32;
-    }
-    0
-}
-
-// A part's number and flags.
-fn put_flags(out: &mut [u8], at: usize, part: u8, flags: &[u8]) -> usize {
-    let a = put_open(out, at);
-    let b = put_decimal(out, a, part as u32);
-    let c = put_bytes(out, b, b" |");
-    put_octets(out, c, flags)
-}
-
-// The line of a part: its number, flags, octets and bits.
-fn put_row(out: &mut [u8], at: usize, kind: u8, part: u8, octets: &[u8]) -> usize {
-    let a = put_flags(out, at, part, first(octets, flags_length(kind)));
-    let b = put_bar(out, a);
-    let c = put_decimal(out, b, length_of(octets));
-    let d = put_bytes(out, c, b" |");
-    let e = put_groups(out, d, kind, octets);
-    put_close(out, e)
-}
-
-// The line of a part with all groups of the kind; nothing where there is no such part.
-fn put_part(out: &mut [u8], at: usize, kind: u8, part: u8) -> usize {
+// Writes a part of a record with all groups of the kind and every value 0; its length, or 0 where there is no such part.
+fn split_all(kind: u8, direction: u8, payload: usize, part: u8, out: &mut [u8]) -> usize {
     let numbers = [0u32; 31];
-    let mut space = [0u8; LEAST_PAYLOAD];
-    let octets: &mut [u8] = &mut space;
     match split_numbers(
         kind,
         listed(kind),
-        0,
+        direction,
         &numbers,
-        LEAST_PAYLOAD,
+        payload,
         part as usize,
-        octets,
+        out,
     ) {
-        SplitAnswer::Part(extent) => put_row(out, at, kind, part, first(octets, extent.length)),
-        SplitAnswer::Refused(_) => at,
+        SplitAnswer::Part(extent) => extent.length,
+        SplitAnswer::Refused(_) => 0,
     }
 }
 
-pub(crate) fn put_parts(out: &mut [u8], at: usize, kind: u8) -> usize {
-    let mut next = put_bytes(
-        out,
-        at,
-        b"\n## Parts at payload 20\n\n| part | flags | octets | bits |\n|---|---|---|---|\n",
-    );
-    for part in 0..MOST_PARTS as u8 {
-        next = put_part(out, next, kind, part);
+// The next cell of a cross trainer's part: its flags where it goes backward.
+fn print_backward(kind: u8, payload: usize, part: u8) {
+    if kind == CROSS_TRAINER {
+        let mut space = [0u8; LONGEST];
+        let out: &mut [u8] = &mut space;
+        split_all(kind, BACKWARD, payload, part, out);
+        print_octets(first(out, flags_length(kind)));
+        print(b" |");
     }
-    put_byte(out, next, LF)
+}
+
+// The line of a part: its number, flags, octets and groups.
+fn print_row(kind: u8, payload: usize, number: u8, part: Part, octets: &[u8]) {
+    print_number(b"| ", number as u64);
+    print(b" |");
+    print_octets(first(octets, flags_length(kind)));
+    print(b" |");
+    print_backward(kind, payload, number);
+    print_number(b" ", octets.len() as u64);
+    print(b" |");
+    print_groups(part);
+    print(b" |\n");
+}
+
+// The line of a part with all groups of the kind; nothing where there is no such part.
+fn print_part(kind: u8, payload: usize, part: u8) {
+    let mut space = [0u8; LONGEST];
+    let out: &mut [u8] = &mut space;
+    let length = split_all(kind, FORWARD, payload, part, out);
+    let octets = first(out, length);
+    match part_of(kind, octets) {
+        PartAnswer::Part(said) => print_row(kind, payload, part, said, octets),
+        PartAnswer::Refused(_) => {}
+    }
+}
+
+// The cross trainer has a direction in its flags.
+fn print_columns(kind: u8) {
+    if kind == CROSS_TRAINER {
+        print(
+            b"| part | flags, forward | flags, backward | octets | groups |\n|---|---|---|---|---|\n",
+        );
+    } else {
+        print(b"| part | flags | octets | groups |\n|---|---|---|---|\n");
+    }
+}
+
+// The table of a kind's parts at a payload.
+pub(crate) fn print_parts(kind: u8, payload: usize) {
+    print_number(b"\n## Parts at payload ", payload as u64);
+    print(b"\n\n");
+    print_columns(kind);
+    for part in 0..MOST_PARTS as u8 {
+        print_part(kind, payload, part);
+    }
+}
+
+// The line of a step of splitting: what remains, how long it would be in one part, and the part that is sent.
+fn print_try(kind: u8, left: u32, part: u8) {
+    let all = flags_length(kind) + groups_length(kind, left | 1);
+    print(b"|");
+    print_bits(left);
+    print_number(b" | ", all as u64);
+    print_number(b" | part ", part as u64);
+    print(b" |\n");
+}
+
+// A step of splitting, where there is one; what remains after it.
+fn print_step(kind: u8, payload: usize, part: u8, left: u32) -> u32 {
+    let mut space = [0u8; LONGEST];
+    let out: &mut [u8] = &mut space;
+    let length = split_all(kind, FORWARD, payload, part, out);
+    match part_of(kind, first(out, length)) {
+        PartAnswer::Part(said) => {
+            print_try(kind, left, part);
+            left ^ said.groups
+        }
+        PartAnswer::Refused(_) => left,
+    }
+}
+
+// The steps by which a record with all groups of the kind is split at a payload.
+pub(crate) fn print_cut(kind: u8, payload: usize) {
+    print_number(b"\n## The cut at payload ", payload as u64);
+    print(b"\n\n| remaining groups | flags, main and these | sent |\n|---|---|---|\n");
+    let mut left = listed(kind);
+    for part in 0..MOST_PARTS as u8 {
+        left = print_step(kind, payload, part, left);
+    }
 }

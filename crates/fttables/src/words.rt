@@ -1,7 +1,12 @@
 // Words in tables.
+use output::first;
+use output::print;
 use text::text::LF;
 use text::text::put_byte;
 use text::text::put_bytes;
+
+// No line of words is longer.
+const LONGEST: usize = 160;
 
 // The line after an octet.
 fn line_after(line: u8, x: u8) -> u8 {
@@ -31,6 +36,14 @@ pub(crate) fn put_word(out: &mut [u8], at: usize, words: &[u8], which: u8) -> us
         line = line_after(line, x);
     }
     next
+}
+
+// Prints one of some words, each of which stands on a line.
+pub(crate) fn print_word(words: &[u8], which: u8) {
+    let mut text = [0u8; LONGEST];
+    let out: &mut [u8] = &mut text;
+    let n = put_word(out, 0, words, which);
+    print(first(out, n));
 }
 
 // The mark before the first cell of a table's line.

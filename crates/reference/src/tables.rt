@@ -94,7 +94,7 @@ pub fn put_table(out: &mut [u8], at: usize, kind: u8) -> usize
 }
 
 // The name of a kind.
-fn put_kind(out: &mut [u8], at: usize, kind: u8) -> usize
+pub fn put_kind(out: &mut [u8], at: usize, kind: u8) -> usize
     ensures { λ r. ⌜ Wrote (now (out .entry)) at (ascii (kind-word kind)) (now (out .exit)) r ⌝ }
 {
     match kind {

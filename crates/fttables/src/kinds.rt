@@ -1,0 +1,117 @@
+// All kinds side by side: their sizes and their fields.
+use output::first;
+use output::print;
+use output::print_number;
+use record::groups::flags_length;
+use record::groups::groups_length;
+use record::groups::listed;
+use record::layout::INDOOR_BIKE;
+use record::layout::Row;
+use record::layout::TREADMILL;
+use record::layout::row_count;
+use record::layout::row_of;
+use record::split::LEAST_PAYLOAD;
+use record::split::SplitAnswer;
+use record::split::split_numbers;
+use reference::tables::put_kind;
+use reference::words::put_width;
+use text::names::put_field;
+
+// One more than the last field.
+const FIELDS: u8 = 31;
+
+fn print_kind(kind: u8) {
+    let mut text = [0u8; 20];
+    let out: &mut [u8] = &mut text;
+    let n = put_kind(out, 0, kind);
+    print(first(out, n));
+}
+
+// How many parts a record of the kind with all its groups has at the least payload.
+fn parts_of(kind: u8) -> usize {
+    let numbers = [0u32; 31];
+    let mut space = [0u8; LEAST_PAYLOAD];
+    let out: &mut [u8] = &mut space;
+    match split_numbers(kind, listed(kind), 0, &numbers, LEAST_PAYLOAD, 0, out) {
+        SplitAnswer::Part(extent) => extent.parts,
+        SplitAnswer::Refused(_) => 0,
+    }
+}
+
+// The line of a kind: its number, its name, the octets of its flags and of all groups, and its parts at the least payload.
+fn print_sizes(kind: u8) {
+    let flags = flags_length(kind);
+    let all = flags + groups_length(kind, listed(kind) | 1);
+    print_number(b"| ", kind as u64);
+    print(b" | ");
+    print_kind(kind);
+    print_number(b" | ", flags as u64);
+    print_number(b" | ", all as u64);
+    print_number(b" | ", parts_of(kind) as u64);
+    print(b" |\n");
+}
+
+// The line of each kind.
+pub(crate) fn print_kinds() {
+    print(
+        b"\n# All kinds\n\n## Kinds\n\n| kind | name | octets of flags | octets with all groups | parts at payload 20 |\n|---|---|---|---|---|\n",
+    );
+    for kind in TREADMILL..=INDOOR_BIKE {
+        print_sizes(kind);
+    }
+}
+
+// A row's bit, or `main`, and its width.
+fn print_row(row: Row) {
+    let bit = row.0;
+    let width = row.2;
+    let mut text = [0u8; 3];
+    let out: &mut [u8] = &mut text;
+    let n = put_width(out, 0, width);
+    if bit == 0 {
+        print(b" main ");
+    } else {
+        print_number(b" ", bit as u64);
+        print(b" ");
+    }
+    print(first(out, n));
+}
+
+// The cell of a field and a kind: nothing where the kind has no such field.
+fn print_cell(kind: u8, field: u8) {
+    for i in 0..row_count(kind) {
+        let row = row_of(kind, i);
+        if row.1 == field {
+            print_row(row);
+        }
+    }
+    print(b" |");
+}
+
+fn print_name(field: u8) {
+    let mut text = [0u8; 21];
+    let out: &mut [u8] = &mut text;
+    let n = put_field(out, 0, field as usize);
+    print(first(out, n));
+}
+
+// The line of a field: a cell for each kind.
+fn print_field(field: u8) {
+    print(b"| ");
+    print_name(field);
+    print(b" |");
+    for kind in TREADMILL..=INDOOR_BIKE {
+        print_cell(kind, field);
+    }
+    print(b"\n");
+}
+
+// Every field with its bit and width in each kind.
+pub(crate) fn print_fields() {
+    print(
+        b"\n## Fields\n\n| field | treadmill | cross trainer | step climber | stair climber | rower | indoor bike |\n|---|---|---|---|---|---|---|\n",
+    );
+    for field in 0..FIELDS {
+        print_field(field);
+    }
+}

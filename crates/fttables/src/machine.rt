@@ -1,0 +1,168 @@
+// What the machine of a console does, by its state and the write, as the calls answer; and what a success does, parameters with their units, ranges.
+use crate::clients::holding;
+use output::first;
+use output::print;
+use output::print_octets;
+use reference::words::put_width;
+use service::control::Console;
+use service::control::machine::Mode;
+use service::control::op_codes::Lookup;
+use service::control::op_codes::op_code;
+
+// The states of a machine: stopped, running, paused.
+const MODES: u8 = 3;
+
+// The writes that act on them, a column each.
+const WRITES: u8 = 4;
+
+const SUCCESS: u8 = 1;
+
+const START: [u8; 1] = [0x07];
+
+const STOP: [u8; 2] = [0x08, 1];
+
+const PAUSE: [u8; 2] = [0x08, 2];
+
+const RESET: [u8; 1] = [0x01];
+
+fn print_mode(mode: Mode) {
+    match mode {
+        Mode::Stopped => print(b" stopped |"),
+        Mode::Running => print(b" running |"),
+        Mode::Paused => print(b" paused |"),
+    }
+}
+
+// The console after a write by client 0, who holds control, and its confirmation.
+fn after(console: Console, octets: &[u8]) -> Console {
+    let written = console.write(0, octets).console;
+    written.confirm(0).console
+}
+
+// A console whose client 0 holds control and whose machine is in one of the states.
+fn in_mode(mode: u8) -> Console {
+    let console = holding();
+    if mode == 0 {
+        return console;
+    }
+    let running = after(console, &START);
+    if mode == 1 {
+        return running;
+    }
+    after(running, &PAUSE)
+}
+
+// The cell of a write: the state after it, or its result where that is not success.
+fn print_write(console: Console, octets: &[u8]) {
+    let reply = console.write(0, octets);
+    let said = reply.response.octets;
+    let machine = reply.console.machine;
+    if said[2] == SUCCESS {
+        print_mode(machine.mode);
+    } else {
+        print(b" result");
+        print_octets(&said[2..3]);
+        print(b" |");
+    }
+}
+
+fn print_cell(mode: u8, which: u8) {
+    let console = in_mode(mode);
+    match which {
+        0 => print_write(console, &START),
+        1 => print_write(console, &STOP),
+        2 => print_write(console, &PAUSE),
+        _ => print_write(console, &RESET),
+    }
+}
+
+// The line of a state.
+fn print_state(mode: u8) {
+    let machine = in_mode(mode).machine;
+    print(b"|");
+    print_mode(machine.mode);
+    for which in 0..WRITES {
+        print_cell(mode, which);
+    }
+    print(b"\n");
+}
+
+fn print_states() {
+    print(b"\n## States\n\n| machine | 07 | 08 01 | 08 02 | 01 |\n|---|---|---|---|---|\n");
+    for mode in 0..MODES {
+        print_state(mode);
+    }
+}
+
+// "Success: 00 gives control; 01 zeroes every setting, stops and frees control; 07 sets running, 08 stopped (1) or paused (2); .. store the parameter octets."
+fn print_successes() {
+    print(b"\n## Successes\n\n| write | what its success does |\n|---|---|\n");
+    print(b"| 00 | gives the client control |\n");
+    print(b"| 01 | zeroes every setting, stops the machine and frees control |\n");
+    print(b"| 07 | sets the machine running |\n");
+    print(b"| 08 01 | stops the machine |\n");
+    print(b"| 08 02 | pauses the machine |\n");
+    print(b"| 02 to 06, 09 to 12, 14 | stores the parameter octets as the setting |\n");
+}
+
+// The units of the parameters, as source document 000 gives them in tables 4.15 and 4.17 to 4.20.
+fn print_units() {
+    print(b"\n## Units\n\n| op code | parameter | unit | resolution |\n|---|---|---|---|\n");
+    print(b"| 02 | speed | kilometers per hour | 0.01 |\n");
+    print(b"| 03 | inclination | percent | 0.1 |\n");
+    print(b"| 04 | resistance | none | 0.1 |\n");
+    print(b"| 05 | power | watts | 1 |\n");
+    print(b"| 06 | heart rate | beats per minute | 1 |\n");
+    print(b"| 09 | energy | calories | 1 |\n");
+    print(b"| 0A | steps | steps | 1 |\n");
+    print(b"| 0B | strides | strides | 1 |\n");
+    print(b"| 0C | distance | meters | 1 |\n");
+    print(b"| 0D | time | seconds | 1 |\n");
+    print(b"| 0E, 0F, 10 | each zone | seconds | 1 |\n");
+    print(b"| 11 | wind | meters per second | 0.001 |\n");
+    print(b"| 11 | grade | percent | 0.01 |\n");
+    print(b"| 11 | rolling | none | 0.0001 |\n");
+    print(b"| 11 | drag | kilograms per meter | 0.01 |\n");
+    print(b"| 12 | wheel | millimeters | 0.1 |\n");
+    print(b"| 14 | cadence | 1/minute | 0.5 |\n");
+}
+
+// The last cell of a range: the width of the target that is compared with it.
+fn print_target(op: u8) {
+    match op_code(op) {
+        Lookup::Known(code) => {
+            let parameter = code.parameter;
+            let mut text = [0u8; 3];
+            let out: &mut [u8] = &mut text;
+            let n = put_width(out, 0, parameter.width(0));
+            print(first(out, n));
+            print(b" |\n");
+        }
+        Lookup::Unknown => print(b"- |\n"),
+    }
+}
+
+// "Ranges (least, greatest, both allowed) exist for speed u16, inclination s16, resistance s16, power s16, heart rate u8."
+fn print_ranges() {
+    print(
+        b"\n## Ranges\n\n| range | least and greatest | op code | its parameter |\n|---|---|---|---|\n",
+    );
+    print(b"| speed | u16 | 02 | ");
+    print_target(0x02);
+    print(b"| inclination | s16 | 03 | ");
+    print_target(0x03);
+    print(b"| resistance | s16 | 04 | ");
+    print_target(0x04);
+    print(b"| power | s16 | 05 | ");
+    print_target(0x05);
+    print(b"| heart rate | u8 | 06 | ");
+    print_target(0x06);
+}
+
+pub(crate) fn print_machine() {
+    print(b"\n# Machine\n");
+    print_states();
+    print_successes();
+    print_units();
+    print_ranges();
+}
