@@ -43,7 +43,8 @@ CUT_SHORT = bytes.fromhex("09 00 00 00 00 CB 09")
 SAMPLE = bytes.fromhex("06 08 00 44 00 C4 09 B4 00 FA 00")
 SAMPLE_LINES = ["record=1", "kind=6", "groups=68", "direction=0", "speed=2500", "cadence=180", "power=250"]
 
-# The damaged capture: what each piece is, its octets as they stand in the capture, and the lines that it prints. A notification's first two octets are its length.
+# The damaged capture: what each piece is, its octets as they stand in the capture, and the lines that it prints, worked out by hand. The first two octets
+# of a notification are its length.
 DAMAGED = [
     ("the kind: an indoor bike", "06", []),
     ("document 01's sample: a whole record", "08 00 44 00 C4 09 B4 00 FA 00",
