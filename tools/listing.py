@@ -3,9 +3,11 @@
 
     python3 tools/listing.py --capture > crates/ftlist/stdin
     python3 tools/listing.py > crates/ftlist/stdout
+    python3 tools/listing.py --damaged --capture > examples/damaged.capture
+    python3 tools/listing.py --damaged > examples/damaged.listing
 
 The capture is of a cross trainer: the kind with the longest flags, a direction, and most of the signed numbers. Each of its notifications is there for
-one sentence of document 01, and is held to the answer that was worked out by hand.
+one sentence of document 01, and is held to the answer that was worked out by hand. The damaged one, a short example for a reader, is of an indoor bike.
 """
 import sys
 
@@ -40,6 +42,25 @@ CUT_SHORT = bytes.fromhex("09 00 00 00 00 CB 09")
 # Document 01's example.
 SAMPLE = bytes.fromhex("06 08 00 44 00 C4 09 B4 00 FA 00")
 SAMPLE_LINES = ["record=1", "kind=6", "groups=68", "direction=0", "speed=2500", "cadence=180", "power=250"]
+
+# The damaged capture: what each piece is, its octets as they stand in the capture, and the lines that it prints, worked out by hand. The first two octets
+# of a notification are its length.
+DAMAGED = [
+    ("the kind: an indoor bike", "06", []),
+    ("document 01's sample: a whole record", "08 00 44 00 C4 09 B4 00 FA 00",
+     "record=1 kind=6 groups=68 direction=0 speed=2500 cadence=180 power=250".split()),
+    ("a record in two parts: the first, with its average speed", "04 00 03 00 60 09", []),
+    ("its last part, with its speed and cadence", "06 00 04 00 CE 09 B2 00",
+     "record=2 kind=6 groups=6 direction=0 speed=2510 average_speed=2400 cadence=178".split()),
+    ("a first part with average speed and cadence; the last part is lost", "06 00 07 00 6A 09 B0 00", []),
+    ("a whole record with a cadence too: the held groups are dropped", "06 00 04 00 E2 09 AE 00",
+     "record=3 kind=6 groups=4 direction=0 speed=2530 cadence=174".split()),
+    ("1 octet: shorter than its flags", "01 00 44", ["refused=31"]),
+    ("shorter than its flags and the groups that they name", "03 00 44 00 C4", ["refused=32"]),
+    ("a whole record again", "06 00 40 00 EC 09 F0 00",
+     "record=4 kind=6 groups=64 direction=0 speed=2540 power=240".split()),
+    ("a length of 8 and 4 octets: the capture ends inside a notification", "08 00 44 00 F6 09", ["refused=37"]),
+]
 
 
 def record_lines(number, kind, groups, direction):
@@ -84,12 +105,23 @@ def capture():
     return octets + CUT_SHORT
 
 
+def damaged():
+    """The damaged capture; each piece is held to the lines that it adds to those before it."""
+    octets, lines = b"", []
+    for words, text, printed in DAMAGED:
+        octets += bytes.fromhex(text)
+        lines += printed
+        assert listing(octets) == lines, words
+    return octets
+
+
 def main():
-    if sys.argv[1:] == ["--capture"]:
-        sys.stdout.buffer.write(capture())
-        return
     assert listing(SAMPLE) == SAMPLE_LINES
-    print("\n".join(listing(capture())))
+    octets = damaged() if "--damaged" in sys.argv[1:] else capture()
+    if "--capture" in sys.argv[1:]:
+        sys.stdout.buffer.write(octets)
+    else:
+        print("\n".join(listing(octets)))
 
 
 if __name__ == "__main__":

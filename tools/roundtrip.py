@@ -1,5 +1,6 @@
 #!/usr/bin/env python3
-"""Prints what crates/roundtrip must print, from document 01's words and tables alone: a record of each kind, its parts at payload 20, and its lines.
+"""Prints what crates/roundtrip must print, from document 01's words and tables alone: a record of each kind, its parts at payload 20, and its lines; then
+three records of which parts are lost.
 
     python3 tools/roundtrip.py > crates/roundtrip/stdout
 """
@@ -9,9 +10,10 @@ sys.dont_write_bytecode = True
 
 from listing import record_lines
 from tables import NAMES
-from vectors import KINDS, collect, hexed, split
+from vectors import KINDS, all_groups, bits_of, collect, fields_of, hexed, split
 
 PAYLOAD = 20
+CROSS_TRAINER = 2
 
 # The records that the program makes: a direction, and a number for each field of the main group and of the groups present.
 RECORDS = {
@@ -28,6 +30,13 @@ RECORDS = {
     6: (0, dict(speed=3250, cadence=168, distance=12400, resistance=18, power=-35, average_power=176, total_energy=287,
                 energy_per_hour=720, energy_per_minute=12, heart_rate=131, elapsed=1500)),
 }
+
+# The parts that are lost, each by its record and its number; and what a collection answers to the others, worked out by hand: an open one takes part 1 of
+# record 1 for record 2's, as none of record 2's groups is held; a fixed one drops it, as part 0 is not above it, and then misses part 1 of record 2.
+LOST = [(1, 0), (1, 2), (2, 1)]
+WHOLE = ["waiting", "waiting", "record with average_speed=3 power=3 speed=3"]
+OPEN = ["waiting", "waiting", "record with average_speed=2 power=1 speed=2"] + WHOLE
+FIXED = ["waiting", "waiting, held groups dropped", "refused 34, held groups dropped"] + WHOLE
 
 
 def groups_of(kind, values):
@@ -46,7 +55,43 @@ def run(kind, direction, values):
     print("\n".join(record_lines(1, kind, *answer)))
 
 
+def answered(answer, dropped):
+    """What a collection of a cross trainer answers, of a record a field of each part: average speed is in the first, power in the second, speed in the last."""
+    if answer == "waiting":
+        said = answer
+    elif isinstance(answer, int):
+        said = f"refused {answer}"
+    else:
+        groups, _ = answer
+        values = {name: x for bit in groups for (name, _), x in zip(KINDS[CROSS_TRAINER][bit], groups[bit])}
+        said = "record with average_speed={average_speed} power={power} speed={speed}".format(**values)
+    return said + (", held groups dropped" if dropped else "")
+
+
+def run_lost(told, worked):
+    """Three records with all groups, in which every value of record n is n: the parts that are not lost, given in order to a collection."""
+    groups, held, answers = all_groups(CROSS_TRAINER), {}, []
+    for number, part in [(number, part) for number in (1, 2, 3) for part in (0, 1, 2)]:
+        values = {name: number for name, _ in fields_of(CROSS_TRAINER, [0] + bits_of(groups))}
+        octets, parts = split(CROSS_TRAINER, groups, 0, values, PAYLOAD, part, PAYLOAD)
+        said = "lost"
+        if (number, part) not in LOST:
+            answer, dropped, held = collect(CROSS_TRAINER, told, held, octets)
+            said = answered(answer, dropped)
+            answers.append(said)
+        print(f"record {number}, part {part} of {parts}: {said}")
+    assert answers == worked, answers
+
+
+def main():
+    for kind, (direction, values) in RECORDS.items():
+        print("== " + NAMES[kind])
+        run(kind, direction, values)
+    print("== a lost part, open")
+    run_lost(None, OPEN)
+    print("== a lost part, fixed")
+    run_lost(all_groups(CROSS_TRAINER), FIXED)
+
+
 if __name__ == "__main__":
-    for each, (heading, numbers) in RECORDS.items():
-        print("== " + NAMES[each])
-        run(each, heading, numbers)
+    main()

@@ -28,7 +28,7 @@ use service::collector::collect;
 use service::collector::open;
 
 // The most octets of a notification; 20 is the least payload that the splitter takes.
-const PAYLOAD: usize = 20;
+pub(crate) const PAYLOAD: usize = 20;
 
 const BLANK: Record = Record {
     kind: 0,
@@ -85,7 +85,7 @@ pub(crate) fn blank(kind: u8) -> Record {
     record
 }
 
-fn show_refused(refusal: Refusal) {
+pub(crate) fn show_refused(refusal: Refusal) {
     let mut lines = [0u8; LONGEST_LINES];
     let length = put_refused(&mut lines, 0, refusal);
     print(first(&lines, length));

@@ -1,0 +1,145 @@
+// Two clients of a treadmill's control point, call by call, in the code that a maker's console would have. What is printed is held to the file `stdout`,
+// which tools/session.py writes from document 01 alone.
+mod show;
+
+use crate::show::confirm;
+use crate::show::connect;
+use crate::show::disconnect;
+use crate::show::state;
+use crate::show::turn_indications_on;
+use crate::show::write;
+use output::print;
+use output::print_number;
+use record::feature::Feature;
+use service::control::Console;
+use service::control::Outcome;
+use service::control::ranges::HeartRateRange;
+use service::control::ranges::Ranges;
+use service::control::ranges::SignedRange;
+use service::control::ranges::SpeedRange;
+
+// What this treadmill sends, and what can be set on it: no resistance and no heart rate.
+const FEATURE: Feature = Feature {
+    features: 1 << Feature::AVERAGE_SPEED
+        | 1 << Feature::DISTANCE
+        | 1 << Feature::INCLINATION
+        | 1 << Feature::ELAPSED
+        | 1 << Feature::POWER,
+    targets: 1 << Feature::TARGET_SPEED
+        | 1 << Feature::TARGET_INCLINATION
+        | 1 << Feature::TARGET_POWER,
+};
+
+// Speed 1 to 20 km/h, inclination -3 to 15 %, power up to 500 W.
+const RANGES: Ranges = Ranges {
+    speed: SpeedRange {
+        least: 100,
+        greatest: 2000,
+    },
+    inclination: SignedRange {
+        least: -30,
+        greatest: 150,
+    },
+    resistance: SignedRange {
+        least: 0,
+        greatest: 0,
+    },
+    power: SignedRange {
+        least: 0,
+        greatest: 500,
+    },
+    heart_rate: HeartRateRange {
+        least: 0,
+        greatest: 0,
+    },
+};
+
+// What the clients write: an op code and its parameter, least octet first.
+const REQUEST_CONTROL: [u8; 1] = [0x00];
+
+const RESET: [u8; 1] = [0x01];
+
+const SPEED_1000: [u8; 3] = [0x02, 0xE8, 0x03];
+
+const SPEED_2001: [u8; 3] = [0x02, 0xD1, 0x07];
+
+const RESISTANCE_50: [u8; 2] = [0x04, 0x32];
+
+const START_OR_RESUME: [u8; 1] = [0x07];
+
+const STOP: [u8; 2] = [0x08, 0x01];
+
+const PAUSE: [u8; 2] = [0x08, 0x02];
+
+// Client 0 takes control and sets a speed; one above the range is answered 03.
+fn begin(opened: Console) -> Console {
+    let mut console = connect(opened, 0);
+    console = turn_indications_on(console, 0);
+    console = write(console, 0, &REQUEST_CONTROL);
+    state(b"now: ", console);
+    console = confirm(console, 0);
+    console = write(console, 0, &SPEED_1000);
+    state(b"now: ", console);
+    console = confirm(console, 0);
+    console = write(console, 0, &SPEED_2001);
+    confirm(console, 0)
+}
+
+// Client 0 starts the machine. What client 1 writes is refused, 20, until that response is confirmed; then another holds control: 04, and 05.
+fn start(begun: Console) -> Console {
+    let mut console = write(begun, 0, &START_OR_RESUME);
+    state(b"now: ", console);
+    console = connect(console, 1);
+    console = turn_indications_on(console, 1);
+    console = write(console, 1, &REQUEST_CONTROL);
+    console = confirm(console, 0);
+    console = write(console, 1, &REQUEST_CONTROL);
+    console = confirm(console, 1);
+    console = write(console, 1, &START_OR_RESUME);
+    confirm(console, 1)
+}
+
+// Client 0 starts what runs already, which is answered 04; pauses; resumes; sets a resistance, which this machine does not have: 02; and stops.
+fn drive(started: Console) -> Console {
+    let mut console = write(started, 0, &START_OR_RESUME);
+    console = confirm(console, 0);
+    console = write(console, 0, &PAUSE);
+    state(b"now: ", console);
+    console = confirm(console, 0);
+    console = write(console, 0, &START_OR_RESUME);
+    state(b"now: ", console);
+    console = confirm(console, 0);
+    console = write(console, 0, &RESISTANCE_50);
+    console = confirm(console, 0);
+    console = write(console, 0, &STOP);
+    state(b"now: ", console);
+    confirm(console, 0)
+}
+
+// Client 0 goes, which frees control: client 1 takes it, and resets the machine.
+fn hand_over(driven: Console) -> Console {
+    let mut console = disconnect(driven, 0);
+    state(b"now: ", console);
+    console = write(console, 1, &REQUEST_CONTROL);
+    state(b"now: ", console);
+    console = confirm(console, 1);
+    console = write(console, 1, &RESET);
+    state(b"now: ", console);
+    confirm(console, 1)
+}
+
+fn main() {
+    let octets = FEATURE.to_octets();
+    let reply = Console::open(&octets, RANGES);
+    let outcome = reply.outcome;
+    match outcome {
+        Outcome::Done => {
+            state(b"a machine is opened: ", reply.console);
+            hand_over(drive(start(begin(reply.console))));
+        }
+        Outcome::Refused(refusal) => {
+            print_number(b"refused ", refusal.number() as u64);
+            print(b"\n");
+        }
+    }
+}
