@@ -9,7 +9,7 @@ import sys
 sys.dont_write_bytecode = True
 
 from listing import record_lines
-from tables import NAMES
+from kinds import NAMES
 from vectors import KINDS, all_groups, bits_of, collect, fields_of, hexed, split
 
 PAYLOAD = 20

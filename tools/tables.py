@@ -7,15 +7,9 @@ import sys
 
 sys.dont_write_bytecode = True
 
-from vectors import KINDS, OCTETS, all_groups, encoded, flags_length, length_of, part_sets
-
-NAMES = {1: "treadmill", 2: "cross trainer", 3: "step climber", 4: "stair climber", 5: "rower", 6: "indoor bike"}
-
-# "Slope is inclination .., then ramp angle"; "Gain is positive u16, then negative u16"; "E is energy: total u16, per hour u16, per minute u8".
-SHARED = {"inclination": "slope", "positive_gain": "gain", "total_energy": "energy"}
-
-# "inclination s16, in tenths of a percent, then ramp angle s16, in tenths of a degree"
-UNITS = {"inclination": "tenths of a percent ", "ramp_angle": "tenths of a degree "}
+from kinds import all_kinds, page, splitting
+from markdown import table
+from vectors import KINDS, OCTETS
 
 FEATURES = """average speed, cadence, distance, inclination, elevation gain, pace, step count, resistance, stride count, energy, heart rate,
 metabolic equivalent, elapsed, remaining, power, belt force and power output, user data retention"""
@@ -96,44 +90,6 @@ def words(text, mark):
     return [word.strip() for word in text.split(mark)]
 
 
-def table(columns, rows):
-    print("| " + " | ".join(columns) + " |\n" + "|---" * len(columns) + "|")
-    for row in rows:
-        print("| " + " | ".join(str(cell) for cell in row) + " |")
-
-
-def group_name(bit, group):
-    first = group[0][0]
-    if bit == 0:
-        return "main"
-    return first if len(group) == 1 else SHARED.get(first, " and ".join(name for name, _ in group))
-
-
-def page(kind):
-    everything = [0] + list(range(1, len(KINDS[kind])))
-    print("# Kind %d: %s\n" % (kind, NAMES[kind]))
-    print("Flags: %d octets. With all groups present: %d octets.\n" % (flags_length(kind), length_of(kind, everything)))
-    print("| bit | group | field | width | octet | unit |\n|---|---|---|---|---|---|")
-    at = flags_length(kind)
-    for bit, group in enumerate(KINDS[kind]):
-        for name, width in group:
-            print("| %d | %s | %s | %s | %d | %s|" % (bit, group_name(bit, group), name, width, at, UNITS.get(name, "")))
-            at += OCTETS[width]
-    parts(kind)
-
-
-def parts(kind):
-    print("\n## Parts at payload 20\n")
-    zeros = {name: 0 for group in KINDS[kind] for name, _ in group}
-    rows = []
-    for number, bits in enumerate(part_sets(kind, all_groups(kind), 20)):
-        octets = encoded(kind, bits, 0, zeros)
-        flags = " ".join("%02X" % x for x in octets[:flags_length(kind)])
-        rows.append((number, flags, len(octets), " ".join(str(bit) for bit in sorted(bits))))
-    table(["part", "flags", "octets", "bits"], rows)
-    print()
-
-
 def parameter(name):
     """"one u16 for each zone"; the widths that a parameter names."""
     zones = {"two": 2, "three": 3, "five": 5}.get(name.split()[0], 1)
@@ -165,38 +121,107 @@ def status(op, octets):
 def op_code(op, name):
     """The cells behind an op code's name. Of spin down's, document 01 says no more than that it "is answered 'not supported'": "result 02"."""
     if op == 0x13:
-        return "-", "-", "-", "not supported", "80 13 02", "-"
+        return "-", "-", "-", "not supported: 80 13 02", "-"
     widths = parameter(name)
     octets = sum(OCTETS[width] for width in widths)
-    return ", ".join(widths) or "none", octets, RANGES.get(op, "none"), target_bit(op), "80 %02X and the result" % op, status(op, octets)
+    return ", ".join(widths) or "none", octets, RANGES.get(op, "none"), target_bit(op), status(op, octets)
 
 
 def op_codes():
     rows = [("%02X" % op, bare(name)) + op_code(op, name) for op, name in enumerate(words(OP_CODES, ";"))]
-    table(["op code", "name", "parameter", "octets", "range", "target bit", "response", "status where it succeeds"], rows)
+    table(["op code", "name", "parameter", "octets", "range", "target bit", "status where it succeeds"], rows)
 
 
 def calls_that_give(number):
     return ", ".join(call for call, order in ORDERS if number in order)
 
 
-def control():
-    print("# Control point\n\n## Feature value\n")
-    print("8 octets: the features, then the target settings, each a u32. Other bits are written 0 and ignored when read.\n")
-    table(["bit of the features", "name"], enumerate(words(FEATURES, ",")))
-    print()
-    table(["bit of the target settings", "name"], enumerate(words(TARGETS, ",")))
-    print("\n## Op codes\n")
+def after(number):
+    """"10 to 22 leave the state unchanged."; "A refusal 30 to 34 leaves nothing held."; "36, then 11, .. end the listing, 37 ends it where met" """
+    if number <= 22:
+        return "the state unchanged"
+    return "nothing held" if number <= 34 else "no collection opened" if number == 35 else "the listing ended"
+
+
+def calls():
+    print("# Feature value\n\n## Features\n")
+    table(["bit", "name"], enumerate(words(FEATURES, ",")))
+    print("\n## Target settings\n")
+    table(["bit", "name"], enumerate(words(TARGETS, ",")))
+    print("\n# Control point\n\n## Op codes\n")
     op_codes()
-    print("\n## Results\n\nThe first that applies:\n")
+    print("\n## Results\n")
     table(["result", "given when"], RESULTS)
-    print("\n## Refusal numbers\n\nA refusal writes no lent octet. 10 to 22 leave the state unchanged.\n")
-    table(["no.", "given exactly when", "by"], [(number, when, calls_that_give(number)) for number, when in REFUSALS])
-    print("\nWhere several apply, the first of each call's order is given:\n")
+    print("\n# Refusals\n\n## Refusal numbers\n")
+    table(["no.", "given exactly when", "by", "what it leaves"],
+          [(number, when, calls_that_give(number), after(number)) for number, when in REFUSALS])
+    print("\n## Orders\n")
     table(["call", "order"], [(call, ", ".join(str(number) for number in order) + ENDS.get(call, "")) for call, order in ORDERS])
+
+
+# "07 sets running, 08 stopped (1) or paused (2)"; 01 "stops"
+WRITES = {"07": "running", "08 01": "stopped", "08 02": "paused", "01": "stopped"}
+
+SUCCESSES = [
+    ("00", "gives the client control"),
+    ("01", "zeroes every setting, stops the machine and frees control"),
+    ("07", "sets the machine running"),
+    ("08 01", "stops the machine"),
+    ("08 02", "pauses the machine"),
+    ("02 to 06, 09 to 12, 14", "stores the parameter octets as the setting"),
+]
+
+# Source document 000, table 4.15; the zones, tables 4.17 to 4.19; 11, table 4.20
+UNITS = """02 speed, kilometers per hour, 0.01; 03 inclination, percent, 0.1; 04 resistance, none, 0.1; 05 power, watts, 1;
+06 heart rate, beats per minute, 1; 09 energy, calories, 1; 0A steps, steps, 1; 0B strides, strides, 1; 0C distance, meters, 1; 0D time, seconds, 1;
+0E/0F/10 each zone, seconds, 1; 11 wind, meters per second, 0.001; 11 grade, percent, 0.01; 11 rolling, none, 0.0001; 11 drag, kilograms per meter, 0.01;
+12 wheel, millimeters, 0.1; 14 cadence, 1/minute, 0.5"""
+
+WIDTHS = {0x02: "u16", 0x03: "s16", 0x04: "s16", 0x05: "s16", 0x06: "u8"}
+
+
+def state_after(state, write):
+    """"04 when .. 07 finds running, 08 with 1 finds stopped, or 08 with 2 finds anything but running" """
+    refused = {"07": state == "running", "08 01": state == "stopped", "08 02": state != "running"}.get(write, False)
+    return "result 04" if refused else WRITES[write]
+
+
+def unit_rows():
+    for entry in words(UNITS, ";"):
+        name, unit, resolution = words(entry, ",")
+        op, name = name.split(" ", 1)
+        yield op.replace("/", ", "), name, unit, resolution
+
+
+def machine():
+    print("\n# Machine\n\n## States\n")
+    table(["machine", *WRITES], [(state, *(state_after(state, write) for write in WRITES)) for state in ("stopped", "running", "paused")])
+    print("\n## Successes\n")
+    table(["write", "what its success does"], SUCCESSES)
+    print("\n## Units\n")
+    table(["op code", "parameter", "unit", "resolution"], unit_rows())
+    print("\n## Ranges\n")
+    names = words(OP_CODES, ";")
+    table(["range", "least and greatest", "op code", "its parameter"],
+          [(RANGES[op], width, "%02X" % op, parameter(names[op])[0]) for op, width in WIDTHS.items()])
+
+
+def keys():
+    """"Each record prints `record=` (1 up), `kind=`, `groups=` (the set in decimal), `direction=`, .." """
+    print("\n# Listing\n\n## Keys\n")
+    table(["key", "what follows it"], [
+        ("`record=`", "the number of the record, from 1 up"),
+        ("`kind=`", "the kind, 1 to 6"),
+        ("`groups=`", "the set of optional groups: the sum of 2 to the power of each bit"),
+        ("`direction=`", "0 forward, 1 backward; 0 for every kind but the cross trainer"),
+        ("`refused=`", "the number of a refusal")])
 
 
 if __name__ == "__main__":
     for each in KINDS:
         page(each)
-    control()
+    calls()
+    machine()
+    all_kinds(words(FEATURES, ","))
+    splitting()
+    keys()

@@ -3,13 +3,14 @@ use output::first;
 use output::print;
 use output::print_number;
 use record::groups::flags_length;
-use record::groups::groups_length;
 use record::groups::listed;
 use record::layout::INDOOR_BIKE;
 use record::layout::Row;
 use record::layout::TREADMILL;
 use record::layout::row_count;
 use record::layout::row_of;
+use record::split::Extent;
+use record::split::GREATEST_PAYLOAD;
 use record::split::LEAST_PAYLOAD;
 use record::split::SplitAnswer;
 use record::split::split_numbers;
@@ -27,27 +28,30 @@ fn print_kind(kind: u8) {
     print(first(out, n));
 }
 
-// How many parts a record of the kind with all its groups has at the least payload.
-fn parts_of(kind: u8) -> usize {
+// The length of the first part of a record of the kind with all its groups at a payload, and how many parts there are.
+fn extent_of(kind: u8, payload: usize) -> Extent {
     let numbers = [0u32; 31];
-    let mut space = [0u8; LEAST_PAYLOAD];
+    let mut space = [0u8; GREATEST_PAYLOAD];
     let out: &mut [u8] = &mut space;
-    match split_numbers(kind, listed(kind), 0, &numbers, LEAST_PAYLOAD, 0, out) {
-        SplitAnswer::Part(extent) => extent.parts,
-        SplitAnswer::Refused(_) => 0,
+    match split_numbers(kind, listed(kind), 0, &numbers, payload, 0, out) {
+        SplitAnswer::Part(extent) => extent,
+        SplitAnswer::Refused(_) => Extent {
+            length: 0,
+            parts: 0,
+        },
     }
 }
 
 // The line of a kind: its number, its name, the octets of its flags and of all groups, and its parts at the least payload.
 fn print_sizes(kind: u8) {
-    let flags = flags_length(kind);
-    let all = flags + groups_length(kind, listed(kind) | 1);
+    let whole = extent_of(kind, GREATEST_PAYLOAD);
+    let cut = extent_of(kind, LEAST_PAYLOAD);
     print_number(b"| ", kind as u64);
     print(b" | ");
     print_kind(kind);
-    print_number(b" | ", flags as u64);
-    print_number(b" | ", all as u64);
-    print_number(b" | ", parts_of(kind) as u64);
+    print_number(b" | ", flags_length(kind) as u64);
+    print_number(b" | ", whole.length as u64);
+    print_number(b" | ", cut.parts as u64);
     print(b" |\n");
 }
 

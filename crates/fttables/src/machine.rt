@@ -10,7 +10,7 @@ use service::control::op_codes::Lookup;
 use service::control::op_codes::op_code;
 
 // The states of a machine: stopped, running, paused.
-const MODES: u8 = 3;
+const STATES: u8 = 3;
 
 // The writes that act on them, a column each.
 const WRITES: u8 = 4;
@@ -40,13 +40,13 @@ fn after(console: Console, octets: &[u8]) -> Console {
 }
 
 // A console whose client 0 holds control and whose machine is in one of the states.
-fn in_mode(mode: u8) -> Console {
+fn in_state(state: u8) -> Console {
     let console = holding();
-    if mode == 0 {
+    if state == 0 {
         return console;
     }
     let running = after(console, &START);
-    if mode == 1 {
+    if state == 1 {
         return running;
     }
     after(running, &PAUSE)
@@ -57,17 +57,19 @@ fn print_write(console: Console, octets: &[u8]) {
     let reply = console.write(0, octets);
     let said = reply.response.octets;
     let machine = reply.console.machine;
-    if said[2] == SUCCESS {
-        print_mode(machine.mode);
+    let mode = machine.mode;
+    let result = [said[2]];
+    if result[0] == SUCCESS {
+        print_mode(mode);
     } else {
         print(b" result");
-        print_octets(&said[2..3]);
+        print_octets(&result);
         print(b" |");
     }
 }
 
-fn print_cell(mode: u8, which: u8) {
-    let console = in_mode(mode);
+fn print_cell(state: u8, which: u8) {
+    let console = in_state(state);
     match which {
         0 => print_write(console, &START),
         1 => print_write(console, &STOP),
@@ -77,20 +79,21 @@ fn print_cell(mode: u8, which: u8) {
 }
 
 // The line of a state.
-fn print_state(mode: u8) {
-    let machine = in_mode(mode).machine;
+fn print_state(state: u8) {
+    let machine = in_state(state).machine;
+    let mode = machine.mode;
     print(b"|");
-    print_mode(machine.mode);
+    print_mode(mode);
     for which in 0..WRITES {
-        print_cell(mode, which);
+        print_cell(state, which);
     }
     print(b"\n");
 }
 
 fn print_states() {
     print(b"\n## States\n\n| machine | 07 | 08 01 | 08 02 | 01 |\n|---|---|---|---|---|\n");
-    for mode in 0..MODES {
-        print_state(mode);
+    for state in 0..STATES {
+        print_state(state);
     }
 }
 

@@ -5,13 +5,13 @@ use output::print_number;
 use output::print_octets;
 use record::groups::BITS;
 use record::groups::flags_length;
-use record::groups::groups_length;
 use record::groups::has;
 use record::groups::listed;
 use record::layout::CROSS_TRAINER;
 use record::notification::Part;
 use record::notification::PartAnswer;
 use record::notification::part_of;
+use record::split::GREATEST_PAYLOAD;
 use record::split::MOST_PARTS;
 use record::split::SplitAnswer;
 use record::split::split_numbers;
@@ -45,12 +45,19 @@ fn print_groups(part: Part) {
     print_bits(part.groups);
 }
 
-// Writes a part of a record with all groups of the kind and every value 0; its length, or 0 where there is no such part.
-fn split_all(kind: u8, direction: u8, payload: usize, part: u8, out: &mut [u8]) -> usize {
+// Writes a part of a record with some groups of the kind and every value 0; its length, or 0 where there is no such part.
+fn split_off(
+    kind: u8,
+    groups: u32,
+    direction: u8,
+    payload: usize,
+    part: u8,
+    out: &mut [u8],
+) -> usize {
     let numbers = [0u32; 31];
     match split_numbers(
         kind,
-        listed(kind),
+        groups,
         direction,
         &numbers,
         payload,
@@ -60,6 +67,11 @@ fn split_all(kind: u8, direction: u8, payload: usize, part: u8, out: &mut [u8]) 
         SplitAnswer::Part(extent) => extent.length,
         SplitAnswer::Refused(_) => 0,
     }
+}
+
+// The same of a record with all groups of the kind.
+fn split_all(kind: u8, direction: u8, payload: usize, part: u8, out: &mut [u8]) -> usize {
+    split_off(kind, listed(kind), direction, payload, part, out)
 }
 
 // The next cell of a cross trainer's part: its flags where it goes backward.
@@ -121,10 +133,12 @@ pub(crate) fn print_parts(kind: u8, payload: usize) {
 
 // The line of a step of splitting: what remains, how long it would be in one part, and the part that is sent.
 fn print_try(kind: u8, left: u32, part: u8) {
-    let all = flags_length(kind) + groups_length(kind, left | 1);
+    let mut space = [0u8; GREATEST_PAYLOAD];
+    let out: &mut [u8] = &mut space;
+    let whole = split_off(kind, left, FORWARD, GREATEST_PAYLOAD, 0, out);
     print(b"|");
     print_bits(left);
-    print_number(b" | ", all as u64);
+    print_number(b" | ", whole as u64);
     print_number(b" | part ", part as u64);
     print(b" |\n");
 }

@@ -83,7 +83,7 @@ last-bit b (r ∷ rows) = last-bit (r .0) rows
 
 -- a group's bit of the flags, once, at the group's first row: the row before has another bit
 unfoldable pub flag-line : ℕ → ℕ → Row → List ℕ
-flag-line kind b r = cond (eqb (r .0) b) [] (ascii "| " ++ decimal (r .0) ++ ascii " | " ++ group-word kind r ++ ascii " is present |\n")
+flag-line kind b r = cond (eqb (r .0) b) [] (ascii "| " ++ decimal (r .0) ++ ascii " | " ++ group-word kind r ++ ascii " present |\n")
 
 abbrev pub flag-lines : ℕ → ℕ → List Row → List ℕ
 flag-lines kind b [] = []

@@ -22,7 +22,7 @@ fn put_flag(out: &mut [u8], at: usize, kind: u8, before: u8, row: Row) -> usize
     let b = put_decimal(out, a, number);
     let c = put_bytes(out, b, b" | ");
     let d = put_group(out, c, kind, row);
-    put_bytes(out, d, b" is present |\n")
+    put_bytes(out, d, b" present |\n")
 }
 
 // The bits behind the last group's: the cross trainer has its direction there, and all others are reserved.
