@@ -3,7 +3,7 @@ import re
 
 from .names import draw_centred
 from .rows import cell, whole_number
-from .svg import LINE, MARGIN, WIDE, Picture, lines_of
+from .svg import LINE, MARGIN, WIDE, Picture, lines_of, text_width
 
 LEFT = 58
 UNIT = (WIDE - MARGIN - LEFT) / 8
@@ -49,56 +49,82 @@ def runs_of(names):
     return runs
 
 
-def strip_height(names):
-    """High enough for its longest name; low where all of it is reserved."""
-    if set(names) == {RESERVED}:
-        return NUMBERS + LINE + 4
-    return NUMBERS + LINE * max(2, max(len(lines_of(name, UNIT - 5, name == MORE)) for name in names)) + 5
+def widest_piece(name):
+    """How much room a name needs at least: that of its widest piece."""
+    return max(text_width(piece, bold=name == MORE) for piece in re.split(r"(?<=_)| ", name)) + 5
 
 
-def draw_run(picture, y, high, run, name, first):
-    """A bit's box, or that of reserved neighbours, with each bit's number; `first` is bit 0 of this octet."""
-    x, wide = LEFT + (7 - run[0]) * UNIT, len(run) * UNIT
+def edges_of(names):
+    """Where the eight columns begin, and the last ends: as wide as each other, but for a name that needs more."""
+    needed = [max(widest_piece(name) for name in names[bit::8]) for bit in reversed(range(8))]
+    wide = [need for need in needed if need > UNIT]
+    shared = (8 * UNIT - sum(wide)) / (8 - len(wide))
+    widths = [need if need > UNIT else shared for need in needed]
+    return [LEFT + sum(widths[:i]) for i in range(9)]
+
+
+class Strip:
+    """The strip of one octet: its names from bit 0 up, the edges of its columns, and its place."""
+
+    def __init__(self, names, edges, y):
+        self.names = names
+        self.edges = edges
+        self.y = y
+        lines = [len(lines_of(name, self.room([bit]), name == MORE)) for bit, name in enumerate(names)]
+        # Low where all of it is reserved, else high enough for its longest name.
+        self.high = NUMBERS + (LINE + 4 if set(names) == {RESERVED} else LINE * max([2] + lines) + 5)
+
+    def sides(self, run):
+        """Where a run of bits begins and ends, from left to right."""
+        return self.edges[7 - run[0]], self.edges[8 - run[-1]]
+
+    def room(self, run):
+        left, right = self.sides(run)
+        return right - left - 4
+
+
+def draw_run(picture, strip, run, first):
+    """A bit's box, or that of reserved neighbours; `first` is the number of this octet's bit 0."""
+    (left, right), name = strip.sides(run), strip.names[run[0]]
     if name == RESERVED:
-        picture.hatch(x, y + NUMBERS, wide, high - NUMBERS)
-    picture.box(x, y, wide, high)
-    for i, bit in enumerate(run):
-        picture.text(x + (i + 0.5) * UNIT, y + 12, str(first + bit), bold=name == MORE)
-        if i:
-            picture.line(x + i * UNIT, y, x + i * UNIT, y + NUMBERS)
+        picture.hatch(left, strip.y + NUMBERS, right - left, strip.high - NUMBERS)
+    picture.box(left, strip.y, right - left, strip.high)
+    for bit in run:
+        near, far = strip.sides([bit])
+        if bit != run[0]:
+            picture.line(near, strip.y, near, strip.y + NUMBERS)
+        picture.text((near + far) / 2, strip.y + 12, str(first + bit), bold=name == MORE)
     if name == MORE:
-        picture.box(x + 1.5, y + 1.5, wide - 3, high - 3, thick=3)
+        picture.box(left + 1.5, strip.y + 1.5, right - left - 3, strip.high - 3, thick=3)
 
 
-def draw_run_name(picture, y, high, run, name):
+def draw_run_name(picture, strip, run):
     """The name, in the longer part where the line between the two digits divides a run."""
+    name = strip.names[run[0]]
     parts = [[bit for bit in run if bit >= 4], [bit for bit in run if bit < 4]]
     longer = run if len(parts[0]) == len(parts[1]) else max(parts, key=len)
-    x, wide = LEFT + (7 - longer[0]) * UNIT, len(longer) * UNIT
-    lines = lines_of(name, wide - 5, bold=name == MORE)
-    draw_centred(picture, x + wide / 2, y + NUMBERS, high - NUMBERS, lines, bold=name == MORE, plate=name == RESERVED)
+    middle = sum(strip.sides(longer)) / 2
+    lines = lines_of(name, strip.room(longer), bold=name == MORE)
+    draw_centred(picture, middle, strip.y + NUMBERS, strip.high - NUMBERS, lines, bold=name == MORE, plate=name == RESERVED)
 
 
-def draw_octet(picture, y, high, label, names, first):
+def draw_strip(picture, strip, label, first):
     """One octet's strip, with a thicker line between its two digits."""
-    picture.text(LEFT - 6, y + high / 2 + 4, label, "end")
-    runs = runs_of(names)
-    for run in runs:
-        draw_run(picture, y, high, run, names[run[0]], first)
-    picture.line(LEFT + 4 * UNIT, y - 3, LEFT + 4 * UNIT, y + high + 3, thick=3)
-    for run in runs:
-        draw_run_name(picture, y, high, run, names[run[0]])
+    picture.text(LEFT - 6, strip.y + strip.high / 2 + 4, label, "end")
+    picture.line(strip.edges[4], strip.y - 3, strip.edges[4], strip.y + strip.high + 3, thick=3)
+    for run in runs_of(strip.names):
+        draw_run(picture, strip, run, first)
+        draw_run_name(picture, strip, run)
 
 
 def octets_picture(title, names, first_octet):
     """A strip for each octet, the first on top."""
     picture = Picture(title)
-    y = picture.top + 3
+    edges, y = edges_of(names), picture.top + 3
     for octet in range(len(names) // 8):
-        of_octet = names[8 * octet:8 * octet + 8]
-        high = strip_height(of_octet)
-        draw_octet(picture, y, high, "octet %d" % (first_octet + octet), of_octet, 8 * octet)
-        y += high + 8
+        strip = Strip(names[8 * octet:8 * octet + 8], edges, y)
+        draw_strip(picture, strip, "octet %d" % (first_octet + octet), 8 * octet)
+        y += strip.high + 8
     return picture.svg(y)
 
 

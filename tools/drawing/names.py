@@ -26,14 +26,19 @@ def draw_strokes(picture, x, foot, unit, octets, high=4):
         picture.line(x + i * unit, foot, x + i * unit, foot - high, GREY)
 
 
+def with_pool(pools, mean, count):
+    """The pools and one more, which joins the last ones as long as its mean is below theirs."""
+    while pools and pools[-1][0] > mean:
+        other, more = pools.pop()
+        mean, count = (mean * count + other * more) / (count + more), count + more
+    return pools + [(mean, count)]
+
+
 def pooled(wanted):
     """The ascending numbers nearest to the wanted ones: neighbours out of order share their mean."""
     pools = []
     for value in wanted:
-        pools.append([value, 1])
-        while len(pools) > 1 and pools[-2][0] > pools[-1][0]:
-            (one, n), (other, m) = pools.pop(-2), pools.pop()
-            pools.append([(one * n + other * m) / (n + m), n + m])
+        pools = with_pool(pools, value, 1)
     return [mean for mean, count in pools for _ in range(count)]
 
 
