@@ -2,7 +2,7 @@
 import re
 from typing import List, NamedTuple
 
-from .svg import INNER, LINE, MARGIN, Picture, lines_of
+from .svg import INNER, LINE, MARGIN, Picture, lines_of, text_width
 
 DROPPED = ", held groups dropped"
 BOX = 34
@@ -51,13 +51,18 @@ def records_of(sent):
     return records
 
 
+def bracket_words(one, wide):
+    """`record 1 in 3 parts`, or `record 1` where that has no room."""
+    whole = "%s in %s part%s" % (one.record, one.parts, "" if one.parts == "1" else "s")
+    return whole if text_width(whole, bold=True) <= wide else one.record
+
+
 def draw_brackets(picture, y, sent, unit):
     """A bracket over the parts of each record."""
     x = MARGIN
     for record in records_of(sent):
         wide = len(record) * unit
-        words = "%s in %s parts" % (record[0].record, record[0].parts)
-        picture.block(x + wide / 2, y + 11, lines_of(words, wide - 6, bold=True)[:1], bold=True)
+        picture.text(x + wide / 2, y + 11, bracket_words(record[0], wide - 6), bold=True)
         picture.path("M%d %dv-6h%dv6" % (x + 4, y + 22, wide - 8))
         x += wide
 

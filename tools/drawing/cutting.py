@@ -74,7 +74,7 @@ def draw_box(picture, scale, x, y, octets, words, fill):
     right = x + octets * scale.unit
     picture.box(x, y, right - x, HIGH, fill, GREY if fill == WHITE else "#000000")
     draw_strokes(picture, x, y + HIGH, scale.unit, octets)
-    draw_centred(picture, scale.middle(x, right), y, HIGH - 2, [words] if words else [])
+    draw_centred(picture, scale.middle(x, right), y, HIGH - 2, [words] if words else [], room=right - x)
     return right
 
 
@@ -82,7 +82,7 @@ def draw_flags(picture, scale, y, flags):
     """The box of the flags, with their octets where there are any; where the groups begin."""
     right = draw_box(picture, scale, MARGIN, y, scale.flags_octets, None if flags else "flags", FLAGS if flags else WHITE)
     for i, octet in enumerate(flags or []):
-        picture.text(MARGIN + (i + 0.5) * scale.unit, y + HIGH / 2 + 3, octet, mono=True)
+        picture.text(MARGIN + (i + 0.5) * scale.unit, y + HIGH / 2 + 3, octet, mono=True, room=scale.unit)
     return right
 
 

@@ -32,7 +32,7 @@ def draw_state(picture, x, y, high, state, changes):
     picture.box(x, y, BOX, high, thick=1.5, more='rx="10"')
     picture.text(x + BOX / 2, y + 16, state, size=12, bold=True)
     results = ["%s: %s" % (write, to) for from_state, write, to in changes if from_state == state and to.startswith("result ")]
-    picture.block(x + BOX / 2, y + 33, results, mono=True)
+    picture.block(x + BOX / 2, y + 33, results, mono=True, room=BOX)
 
 
 def draw_across(picture, x1, x2, y, writes):
@@ -58,12 +58,12 @@ def draw_round(picture, x1, x2, y, down, writes):
 
 
 def draw_loop(picture, x, y, writes):
-    """An arrow from a state's foot back to it, the writes beside it."""
+    """An arrow from a state's top back to it, the writes beside it."""
     if writes:
-        shape = "M%s %sv12q0 6 6 6h18q6 0 6 -6v-6" % (number(x), number(y))
+        shape = "M%s %sv-10q0 -6 6 -6h12q6 0 6 6v4" % (number(x), number(y))
         picture.path(shape, thick=1.5)
-        picture.head(x + 30, y + 1, 0, -1)
-        picture.text(x + 37, y + 18, writes, "start", mono=True)
+        picture.head(x + 24, y - 1, 0, 1)
+        picture.text(x + 31, y - 6, writes, "start", mono=True)
 
 
 def draw_neighbours(picture, y, high, lefts, states, changes):
@@ -81,7 +81,14 @@ def draw_arrows(picture, y, high, states, changes):
     draw_round(picture, last, first, y + high, 1, writes_between(changes, states[2], states[0]))
     draw_round(picture, first, last, y, -1, writes_between(changes, states[0], states[2]))
     for left, state in zip(lefts, states):
-        draw_loop(picture, left + 12, y + high, writes_between(changes, state, state))
+        draw_loop(picture, left + BOX / 2 + 10, y, writes_between(changes, state, state))
+
+
+def room_above(states, changes):
+    """How much room the arrows above the boxes take."""
+    if writes_between(changes, states[0], states[2]):
+        return 32
+    return 18 if any(writes_between(changes, state, state) for state in states) else 2
 
 
 def modes_picture(title, rows):
@@ -93,7 +100,7 @@ def modes_picture(title, rows):
     picture = Picture(title)
     results = max(sum(to.startswith("result ") for of_state, _, to in changes if of_state == state) for state in states)
     high = max(58, 27 + results * LINE)
-    y = picture.top + (34 if writes_between(changes, states[0], states[2]) else 2)
+    y = picture.top + room_above(states, changes)
     for i, state in enumerate(states):
         draw_state(picture, MARGIN + i * (BOX + GAP), y, high, state, changes)
     draw_arrows(picture, y, high, states, changes)

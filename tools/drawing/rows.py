@@ -64,9 +64,11 @@ def groups_of(rows, flags_octets):
             raise ValueError("field %s has width `%s`, which is not known" % (cell(row, "field"), width))
         field = Field(cell(row, "field"), width, OCTETS[width], whole_number(cell(row, "octet"), "the octet of " + cell(row, "field")))
         if field.at != at:
-            raise ValueError("field %s is at octet %d, but the field before it ends at octet %d" % (field.name, field.at, at))
+            raise ValueError("field %s is at octet %d, where octet %d comes next" % (field.name, field.at, at))
         at += field.octets
         add_field(groups, bit, name, field)
+    if not groups or groups[0].bit != 0:
+        raise ValueError("the fields do not begin with the main group")
     return groups
 
 

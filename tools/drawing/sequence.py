@@ -38,6 +38,8 @@ def call_of(line):
         raise ValueError("`%s`: a session is drawn for clients 0 and 1" % line)
     if (call.call == "writes") != (call.octets != "") or (call.response and not call.octets):
         raise ValueError("`%s`: the octets do not go with the call" % line)
+    if call.call.startswith("writes") and not call.response and not call.refused:
+        raise ValueError("`%s`: a write without an answer" % line)
     return call
 
 
@@ -120,6 +122,8 @@ def draw_lifelines(picture, y, foot, lines):
 
 def sequence_picture(title, lines):
     """A session in one picture, however long."""
+    if not lines:
+        raise ValueError("the session `%s` has no lines" % title)
     picture = Picture(title)
     y = picture.top + HEADS
     foot = y + height_of_all(lines) + 6

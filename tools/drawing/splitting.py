@@ -34,10 +34,10 @@ def draw_group(picture, group, x, y, unit, high, names):
     draw_octets(picture, group, x, y + high, unit)
     lines = name_lines(words_of(group), wide, 2) if names else None
     if lines:
-        picture.text(x + wide / 2, y + 12, bit_words(group, wide), bold=True)
+        picture.text(x + wide / 2, y + 12, bit_words(group, wide), bold=True, room=wide)
         draw_centred(picture, x + wide / 2, y + 14, high - 21, lines)
         return []
-    draw_centred(picture, x + wide / 2, y, high - 4, [bit_words(group, wide)], bold=True)
+    draw_centred(picture, x + wide / 2, y, high - 4, [bit_words(group, wide)], bold=True, room=wide)
     return [(x + wide / 2, words_of(group))] if names else []
 
 
@@ -50,7 +50,7 @@ def draw_flags(picture, flags, x, y, unit, high):
         picture.text(x + len(flags) * unit / 2, y + 12, "flags")
         low = y + 14 + (high - 18) / 2 + 4
     for i, octet in enumerate(flags):
-        picture.text(x + (i + 0.5) * unit, low, octet, mono=True)
+        picture.text(x + (i + 0.5) * unit, low, octet, mono=True, room=unit)
 
 
 def draw_strip(picture, flags, groups, y, unit, high, names):

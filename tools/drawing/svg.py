@@ -123,9 +123,11 @@ class Picture:
             strokes.append("M%s %sL%s %s" % (number(x + far), number(y + low), number(x + right), number(y + top)))
         self.path("".join(strokes), stroke="#aaaaaa", thick=0.7)
 
-    def text(self, x, y, words, anchor="middle", size=SMALL, bold=False, mono=False, fill="#000000", plate=False):
-        """A text on a base line; `plate` clears the ground under it."""
+    def text(self, x, y, words, anchor="middle", size=SMALL, bold=False, mono=False, plate=False, fill="#000000", room=WIDE):
+        """A text on a base line that must fit in a room; `plate` clears the ground under it."""
         wide = text_width(words, size, bold, mono)
+        if wide > room:
+            raise ValueError("`%s` has no room in its box in the picture `%s`" % (words, self.title))
         left = x - {"start": 0, "middle": wide / 2, "end": wide}[anchor]
         self.texts.append((left, y - 0.76 * size, left + wide, y + 0.23 * size, words))
         if plate:
