@@ -1,0 +1,8 @@
+"""The pictures of the printed reference as SVG, drawn from rows of tables and lines of programs' output."""
+from .bits import feature_picture, flags_picture
+from .collecting import lost_picture
+from .cutting import cut_picture
+from .layouts import whole_picture
+from .modes import modes_picture
+from .sequence import sequence_picture, sequence_pictures
+from .splitting import parts_picture
