@@ -1,6 +1,6 @@
 """The tables of the kinds, from document 01's words and tables alone: each kind's flags, fields and parts; all kinds side by side; how a record is cut."""
 from markdown import table
-from vectors import KINDS, OCTETS, OWN, all_groups, encoded, flags_length, hexed, length_of, part_sets
+from vectors import GREATEST, KINDS, LEAST, OCTETS, OWN, all_groups, encoded, flags_length, hexed, length_of, part_sets, spelled
 
 NAMES = {1: "treadmill", 2: "cross trainer", 3: "step climber", 4: "stair climber", 5: "rower", 6: "indoor bike"}
 
@@ -132,3 +132,15 @@ def all_kinds(features):
     print("\n## Features and groups\n")
     table(["feature", "name", *NAMES.values()],
           [(bit, name, *(answering(kind, bit) for kind in KINDS)) for bit, name in enumerate(features[:-1])])
+
+
+def end(number, octets):
+    """A number, and the octets that it is sent as."""
+    return f"{number}: {hexed(spelled(number, octets)).strip()}"
+
+
+def widths():
+    """"Widths: u8, u16, u24, s16 (two's complement, −32,768 to 32,767)."; "least octet first" """
+    print("\n# Widths\n\n## Widths\n")
+    table(["width", "octets", "least", "greatest"],
+          [(width, n, end(LEAST[width], n), end(GREATEST[width], n)) for width, n in OCTETS.items()])

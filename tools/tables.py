@@ -7,7 +7,7 @@ import sys
 
 sys.dont_write_bytecode = True
 
-from kinds import all_kinds, page, splitting
+from kinds import all_kinds, page, splitting, widths
 from markdown import table
 from vectors import KINDS, OCTETS
 
@@ -76,6 +76,22 @@ ORDERS = [
 # "A write is judged in this order: 10, 17, 18, 19, 20; unsupported op code, result 02; .."
 ENDS = {"write": ", then the results"}
 
+# "A refusal writes no lent octet. 10 to 22 leave the state unchanged."; "A refusal 30 to 34 leaves nothing held."; "36, then 11, are judged first and end the
+# listing, 37 ends it where met"
+CONSOLE = "the console as it was"
+LEAVES = {
+    "splitting": "the lent octets as they were",
+    "splitting called from C": "the lent octets and numbers as they were",
+    "reading a notification": "the lent numbers as they were",
+    "reading a Feature value": "nothing: it keeps nothing",
+    "opening a collection": "no collection",
+    "collecting a notification": "nothing held",
+    "opening a machine": "no machine",
+    "connect": CONSOLE, "disconnect": CONSOLE, "indications": CONSOLE, "write": CONSOLE, "confirm": CONSOLE,
+    "listing a capture": "the lent octets as they were",
+    "a line of a listing": "36, 11 and 37: the listing at its end; 30 to 32: nothing held, and the listing goes on",
+}
+
 # "A write is judged in this order: ..", after the refusals
 RESULTS = [
     ("02", "the op code is not supported"),
@@ -136,13 +152,6 @@ def calls_that_give(number):
     return ", ".join(call for call, order in ORDERS if number in order)
 
 
-def after(number):
-    """"10 to 22 leave the state unchanged."; "A refusal 30 to 34 leaves nothing held."; "36, then 11, .. end the listing, 37 ends it where met" """
-    if number <= 22:
-        return "the state unchanged"
-    return "nothing held" if number <= 34 else "no collection opened" if number == 35 else "the listing ended"
-
-
 def calls():
     print("# Feature value\n\n## Features\n")
     table(["bit", "name"], enumerate(words(FEATURES, ",")))
@@ -153,10 +162,10 @@ def calls():
     print("\n## Results\n")
     table(["result", "given when"], RESULTS)
     print("\n# Refusals\n\n## Refusal numbers\n")
-    table(["no.", "given exactly when", "by", "what it leaves"],
-          [(number, when, calls_that_give(number), after(number)) for number, when in REFUSALS])
+    table(["no.", "given exactly when", "by"], [(number, when, calls_that_give(number)) for number, when in REFUSALS])
     print("\n## Orders\n")
-    table(["call", "order"], [(call, ", ".join(str(number) for number in order) + ENDS.get(call, "")) for call, order in ORDERS])
+    table(["call", "order", "what a refusal leaves"],
+          [(call, ", ".join(str(number) for number in order) + ENDS.get(call, ""), LEAVES[call]) for call, order in ORDERS])
 
 
 # "07 sets running, 08 stopped (1) or paused (2)"; 01 "stops"
@@ -223,5 +232,6 @@ if __name__ == "__main__":
     calls()
     machine()
     all_kinds(words(FEATURES, ","))
+    widths()
     splitting()
     keys()

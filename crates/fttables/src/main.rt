@@ -12,6 +12,7 @@ mod parts;
 mod records;
 mod refusals;
 mod steps;
+mod widths;
 mod words;
 
 use crate::answers::print_answers;
@@ -25,6 +26,7 @@ use crate::orders::put_orders;
 use crate::parts::print_cut;
 use crate::parts::print_parts;
 use crate::refusals::put_refusals;
+use crate::widths::print_widths;
 use output::first;
 use output::print;
 use record::layout::INDOOR_BIKE;
@@ -77,6 +79,7 @@ fn main() {
     print_kinds();
     print_fields();
     print_answers();
+    print_widths();
     print_splitting();
     print_keys();
 }

@@ -8,6 +8,7 @@ use crate::words::put_bar;
 use crate::words::put_close;
 use crate::words::put_comma;
 use crate::words::put_open;
+use crate::words::put_word;
 use text::text::put_bytes;
 use text::text::put_decimal;
 
@@ -32,6 +33,16 @@ fn put_results(out: &mut [u8], at: usize, call: u8) -> usize {
     at
 }
 
+// What stands after a refusal of a call.
+fn put_left(out: &mut [u8], at: usize, call: u8) -> usize {
+    put_word(
+        out,
+        at,
+        b"the lent octets as they were\nthe lent octets and numbers as they were\nthe lent numbers as they were\nnothing: it keeps nothing\nno collection\nnothing held\nno machine\nthe console as it was\nthe console as it was\nthe console as it was\nthe console as it was\nthe console as it was\nthe lent octets as they were\n36, 11 and 37: the listing at its end; 30 to 32: nothing held, and the listing goes on\n",
+        call,
+    )
+}
+
 // The line of a call.
 fn put_order(out: &mut [u8], at: usize, call: u8) -> usize {
     let a = put_open(out, at);
@@ -39,12 +50,18 @@ fn put_order(out: &mut [u8], at: usize, call: u8) -> usize {
     let c = put_bar(out, b);
     let d = put_numbers(out, c, call);
     let e = put_results(out, d, call);
-    put_close(out, e)
+    let f = put_bar(out, e);
+    let g = put_left(out, f, call);
+    put_close(out, g)
 }
 
 // The table of the calls.
 pub(crate) fn put_orders(out: &mut [u8], at: usize) -> usize {
-    let mut next = put_bytes(out, at, b"\n## Orders\n\n| call | order |\n|---|---|\n");
+    let mut next = put_bytes(
+        out,
+        at,
+        b"\n## Orders\n\n| call | order | what a refusal leaves |\n|---|---|---|\n",
+    );
     for call in 0..CALLS {
         next = put_order(out, next, call);
     }

@@ -62,29 +62,6 @@ fn put_by(out: &mut [u8], at: usize, number: u8) -> usize {
     next
 }
 
-// What stands after a refusal: "10 to 22 leave the state unchanged"; "A refusal 30 to 34 leaves nothing held"; 36 and 37 end a listing.
-fn after(number: u8) -> u8 {
-    if number <= 22 {
-        return 0;
-    }
-    if number <= 34 {
-        return 1;
-    }
-    if number == 35 {
-        return 2;
-    }
-    3
-}
-
-fn put_after(out: &mut [u8], at: usize, number: u8) -> usize {
-    put_word(
-        out,
-        at,
-        b"the state unchanged\nnothing held\nno collection opened\nthe listing ended\n",
-        after(number),
-    )
-}
-
 // The line of a refusal.
 fn put_row(out: &mut [u8], at: usize, which: u8) -> usize {
     let refusal = refusal_at(which);
@@ -95,9 +72,7 @@ fn put_row(out: &mut [u8], at: usize, which: u8) -> usize {
     let d = put_when(out, c, which);
     let e = put_bar(out, d);
     let f = put_by(out, e, number);
-    let g = put_bar(out, f);
-    let h = put_after(out, g, number);
-    put_close(out, h)
+    put_close(out, f)
 }
 
 // The table of the refusals.
@@ -105,7 +80,7 @@ pub(crate) fn put_refusals(out: &mut [u8], at: usize) -> usize {
     let mut next = put_bytes(
         out,
         at,
-        b"\n# Refusals\n\n## Refusal numbers\n\n| no. | given exactly when | by | what it leaves |\n|---|---|---|---|\n",
+        b"\n# Refusals\n\n## Refusal numbers\n\n| no. | given exactly when | by |\n|---|---|---|\n",
     );
     for which in 0..REFUSALS {
         next = put_row(out, next, which);
