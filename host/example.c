@@ -1,4 +1,7 @@
-/* Splits a record of an indoor bike for notifications of 20 octets, and lists the notifications as a phone would that captured them. */
+/*
+ * Splits a record of an indoor bike for notifications of 20 octets, and lists the notifications as
+ * a phone would that captured them.
+ */
 #include <stdio.h>
 #include <stdlib.h>
 
@@ -6,7 +9,10 @@
 
 #define PAYLOAD 20
 
-/* All groups of an indoor bike, as one notification: flags, then the groups in the order of their bits, least octet first. */
+/*
+ * All groups of an indoor bike, as one notification: flags, then the groups in the order of their
+ * bits, least octet first.
+ */
 static const uint8_t record[] = {
     0xfe, 0x1f,             /* flags: bits 1 to 12, More Data 0 */
     0xc4, 0x09,             /* speed 2500 */
@@ -25,7 +31,7 @@ static const uint8_t record[] = {
     0x00, 0x00              /* remaining 0 */
 };
 
-/* Appends a notification to a capture: its length, then its octets. The capture's length after it. */
+/* Appends a notification to a capture: its length and its octets. The capture's length after it. */
 static size_t captured(uint8_t *capture, size_t at, const uint8_t *notification, size_t length)
 {
     size_t i;
@@ -64,7 +70,8 @@ int main(void)
     size_t i, j;
     for (i = 0; i < parts; i++) {
         size_t length = 0;
-        uint32_t refusal = hordivasz_split(HORDIVASZ_INDOOR_BIKE, record, sizeof record, PAYLOAD, i, part, sizeof part, &length, &parts);
+        uint32_t refusal = hordivasz_split(HORDIVASZ_INDOOR_BIKE, record, sizeof record, PAYLOAD, i,
+                                           part, sizeof part, &length, &parts);
         if (refusal != HORDIVASZ_DONE) {
             fprintf(stderr, "refused: %u\n", (unsigned)refusal);
             return 1;

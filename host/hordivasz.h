@@ -1,12 +1,16 @@
 /*
- * The records of gym machines: splitting a record into notifications, and listing a capture of notifications.
+ * The records of gym machines: splitting a record into notifications, and listing a capture of
+ * notifications.
  *
- * Link with libphone.a. The calls take no memory of their own, keep nothing between calls and may be made from several threads at once.
+ * Link with libphone.a. The calls take no memory of their own, keep nothing between calls and may
+ * be made from several threads at once.
  *
- * What a host must not do: hand in a null pointer, even with a length of 0 (point to any octet of yours); let two of the areas and numbers
- * handed in overlap, but for areas that are only read; hand in the same number for `length` and `parts`; change what is handed in before
- * the call returns; or give a length above what stands behind its pointer. The library cannot see these, and promises nothing after them.
- * Everything else may be handed in: any octets, any kind, any payload, any part, any length.
+ * What a host must not do: hand in a null pointer, even with a length of 0 (point to any octet of
+ * yours); let two of the areas and numbers handed in overlap, but for areas that are only read;
+ * hand in the same number for `length` and `parts`; change what is handed in before the call
+ * returns; or give a length above what stands behind its pointer. The library cannot see these, and
+ * promises nothing after them. Everything else may be handed in: any octets, any kind, any payload,
+ * any part, any length.
  */
 #ifndef HORDIVASZ_H
 #define HORDIVASZ_H
@@ -18,7 +22,10 @@
 extern "C" {
 #endif
 
-/* What a call returns: 0, or the number of the first refusal that applies. On a refusal nothing behind any pointer is written. */
+/*
+ * What a call returns: 0, or the number of the first refusal that applies. On a refusal nothing
+ * behind any pointer is written.
+ */
 #define HORDIVASZ_DONE 0u
 #define HORDIVASZ_UNKNOWN_KIND 11u          /* kind not 1 to 6 */
 #define HORDIVASZ_PAYLOAD_OUT_OF_RANGE 12u  /* payload not 20 to 512 */
@@ -45,23 +52,27 @@ extern "C" {
  * Writes a part of a record for one notification.
  *
  * kind           the kind of machine
- * record         the record as one notification with More Data 0; reserved bits and octets after its last group are ignored
+ * record         the record as one notification with More Data 0; reserved bits and octets after
+ *                its last group are ignored
  * record_length  how many octets `record` has
  * payload        the most octets that a notification may have, 20 to 512
  * part           which part, counted from 0
  * out            where the part goes; octets past it stay as they are
- * out_length     how many octets `out` has: as many as this part has are enough, and `payload` always is
+ * out_length     how many octets `out` has: as many as this part has are enough, and `payload`
+ *                always is
  * length         how many octets the part has
  * parts          how many parts the record has at this payload
  *
  * Returns 0, or 11, 12, 30, 31, 32, 13, 15 or 14, judged in this order.
  */
-uint32_t hordivasz_split(uint32_t kind, const uint8_t *record, size_t record_length, size_t payload, size_t part, uint8_t *out,
-                         size_t out_length, size_t *length, size_t *parts);
+uint32_t hordivasz_split(uint32_t kind, const uint8_t *record, size_t record_length,
+                         size_t payload, size_t part, uint8_t *out, size_t out_length,
+                         size_t *length, size_t *parts);
 
 /*
- * Lists a capture: a kind octet, then for each notification its length, two octets with the least first, and its octets. Parts are joined to
- * records. The listing is lines of ASCII text `name=number`, each with a line feed at its end, and no octet 0 behind them; what is wrong with a
+ * Lists a capture: a kind octet, then for each notification its length, two octets with the least
+ * first, and its octets. Parts are joined to records. The listing is lines of ASCII text
+ * `name=number`, each with a line feed at its end, and no octet 0 behind them; what is wrong with a
  * capture or a notification stands in it as a line `refused=` with the refusal's number.
  *
  * capture         the capture
@@ -72,7 +83,8 @@ uint32_t hordivasz_split(uint32_t kind, const uint8_t *record, size_t record_len
  *
  * Returns 0, or 14.
  */
-uint32_t hordivasz_list(const uint8_t *capture, size_t capture_length, uint8_t *out, size_t out_length, size_t *length);
+uint32_t hordivasz_list(const uint8_t *capture, size_t capture_length, uint8_t *out,
+                        size_t out_length, size_t *length);
 
 /* How many octets the listing of a capture has: what to lend to hordivasz_list. */
 size_t hordivasz_list_length(const uint8_t *capture, size_t capture_length);

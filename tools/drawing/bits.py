@@ -21,8 +21,8 @@ def bits_of_row(words):
 
 
 def short_name(words):
-    """The name in what a bit says: the words before the first colon, or before ` is present`."""
-    found = re.match(r"([^:]+?)(:| is present$)", words)
+    """The name in what a bit says: the words before the first colon, or before ` present`."""
+    found = re.match(r"([^:]+?)(:| present$)", words)
     if not found:
         raise ValueError("`%s` does not begin with a name" % words)
     return found.group(1)

@@ -1,4 +1,5 @@
-// Lists a capture: from standard input to standard output, a step's lines at a time. Where reading or writing fails, it says so on standard error.
+// Lists a capture: from standard input to standard output, a step's lines at a time. Where
+// reading or writing fails, it says so on standard error.
 use libc::STDIN_FILENO;
 use libc::STDOUT_FILENO;
 use listing::lines::LONGEST_LINES;
@@ -18,7 +19,8 @@ struct Input {
     failed: bool,
 }
 
-// One read into a buffer, behind the octets that it has: none come where the input has ended or the read fails.
+// One read into a buffer, behind the octets that it has: none come where the input has ended or
+// the read fails.
 fn read_some(buffer: &mut [u8], at: usize) -> Input
     requires { ⌜ at ≤ length (now buffer) ⌝ }
     ensures { λ r. ⌜ at + r .length ≤ length (now (buffer .exit)) ⌝ }

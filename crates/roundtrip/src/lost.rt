@@ -1,4 +1,5 @@
-// Three records of a cross trainer, each in three parts, some of which are lost: an open collection mixes two records, where a fixed one refuses, 34.
+// Three records of a cross trainer, each in three parts, some of which are lost: an open
+// collection mixes two records, where a fixed one refuses, 34.
 use crate::round::PAYLOAD;
 use crate::round::blank;
 use crate::round::show_refused;
@@ -65,7 +66,8 @@ fn numbered(n: u8) -> Record {
     record
 }
 
-// Splits a part off record n into the lent octets, and begins its line; its length, or 0 where it is refused.
+// Splits a part off record n into the lent octets, and begins its line; its length, or 0 where
+// it is refused.
 fn split_off(n: u8, part: usize, out: &mut [u8]) -> usize {
     match split(numbered(n), PAYLOAD, part, out) {
         SplitAnswer::Part(extent) => {

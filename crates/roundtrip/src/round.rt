@@ -1,4 +1,5 @@
-// A record split into its parts, and the parts collected into a record again: the same for every kind.
+// A record split into its parts, and the parts collected into a record again: the same for every
+// kind.
 use listing::lines::LONGEST_LINES;
 use listing::lines::put_record;
 use listing::lines::put_refused;
@@ -156,7 +157,8 @@ fn send_parts(record: Record, opened: Collection) {
     }
 }
 
-// Splits a record at payload 20, collects its parts, and prints the parts and the record that comes out; or the number of what is refused.
+// Splits a record at payload 20, collects its parts, and prints the parts and the record that
+// comes out; or the number of what is refused.
 pub(crate) fn split_and_collect(record: Record) {
     let opened = open(record.kind, Told::Open);
     let answer = opened.answer;

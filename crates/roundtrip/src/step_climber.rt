@@ -1,4 +1,5 @@
-// A step climber whose record is one octet longer than the payload: all optional groups go first, and the main group follows alone.
+// A step climber whose record is one octet longer than the payload: all optional groups go
+// first, and the main group follows alone.
 use crate::round::blank;
 use crate::round::split_and_collect;
 use record::layout::STEP_CLIMBER;

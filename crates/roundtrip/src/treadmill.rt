@@ -1,4 +1,5 @@
-// A treadmill that goes downhill after a climb: inclination, ramp angle, belt force and power output are negative.
+// A treadmill that goes downhill after a climb: inclination, ramp angle, belt force and power
+// output are negative.
 use crate::round::blank;
 use crate::round::split_and_collect;
 use record::layout::TREADMILL;

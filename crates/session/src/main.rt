@@ -1,4 +1,5 @@
-// Two clients of a treadmill's control point, call by call, in the code that a maker's console would have. What is printed is held to the file `stdout`,
+// Two clients of a treadmill's control point, call by call, in the code that a maker's console
+// would have. What is printed is held to the file `stdout`,
 // which tools/session.py writes from document 01 alone.
 mod show;
 
@@ -85,7 +86,8 @@ fn begin(opened: Console) -> Console {
     confirm(console, 0)
 }
 
-// Client 0 starts the machine. What client 1 writes is refused, 20, until that response is confirmed; then another holds control: 04, and 05.
+// Client 0 starts the machine. What client 1 writes is refused, 20, until that response is
+// confirmed; then another holds control: 04, and 05.
 fn start(begun: Console) -> Console {
     let mut console = write(begun, 0, &START_OR_RESUME);
     state(b"now: ", console);
@@ -99,7 +101,8 @@ fn start(begun: Console) -> Console {
     confirm(console, 1)
 }
 
-// Client 0 starts what runs already, which is answered 04; pauses; resumes; sets a resistance, which this machine does not have: 02; and stops.
+// Client 0 starts what runs already, which is answered 04; pauses; resumes; sets a resistance,
+// which this machine does not have: 02; and stops.
 fn drive(started: Console) -> Console {
     let mut console = write(started, 0, &START_OR_RESUME);
     console = confirm(console, 0);

@@ -1,4 +1,5 @@
-// The calls of the control point, each made and printed as a line: a console goes in, and the console after the call comes back. And the state of its machine.
+// The calls of the control point, each made and printed as a line: a console goes in, and the
+// console after the call comes back. And the state of its machine.
 use output::first;
 use output::print;
 use output::print_number;
@@ -24,13 +25,17 @@ pub(crate) fn write(console: Console, client: u8, octets: &[u8]) -> Console {
     let outcome = reply.outcome;
     match outcome {
         Outcome::Done => {
-            send(b": response", reply.response); // 80, the op code and the result; the client has to confirm it
-            send(b", status", reply.status); // none unless the write succeeded
+            // 80, the op code and the result: the client has to confirm it
+            send(b": response", reply.response);
+            // none unless the write succeeded
+            send(b", status", reply.status);
         }
-        Outcome::Refused(refusal) => refuse(refusal), // 10, 17, 18, 19 or 20
+        // 10, 17, 18, 19 or 20
+        Outcome::Refused(refusal) => refuse(refusal),
     }
     print(b"\n");
-    reply.console // the console after the call
+    // the console after the call
+    reply.console
 }
 
 // Octets behind their label; nothing where there are none.

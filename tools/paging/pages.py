@@ -1,0 +1,112 @@
+"""The pages: their words stand in docs/source/, and each line `{{..}}` there is replaced by what it names."""
+import os
+import re
+
+from . import code
+from .pictures import Pictures
+from .printed import Fault, read, section, tables
+
+SOURCE = "docs/source"
+DIRECTIVE = re.compile(r"^\{\{(\S+)(?: (.*))?\}\}$")
+STANDING = re.compile(r"^\*(Proved|Run|Compared): ")
+LINK = re.compile(r"`([^`]+)` in `([^`]+)`")
+
+
+def standing(kind, words):
+    """Under a table, which of the three it is. Each `name` in `file` must be there."""
+    for name, path in LINK.findall(words):
+        if name not in read(path):
+            raise Fault(f"{path} has no {name}")
+    return f"*{kind}: {words}*"
+
+
+class Maker:
+    def __init__(self):
+        self.tables = tables()
+        self.pictures = Pictures(self.tables)
+        self.edition = read("VERSION").strip()
+
+    def table(self, name):
+        if name not in self.tables:
+            raise Fault(f"fttables prints no table {name}")
+        return self.tables[name].splitlines()
+
+    def expand(self, page, what, words):
+        """The lines that a directive stands for."""
+        words = words.replace("@_", page.replace("-", "_")).replace("@", page)
+        if what == "title":
+            return ["# " + "".join(self.table(words + "/title"))]
+        if what == "table":
+            return self.table(words)
+        if what == "picture":
+            return self.pictures.draw(words.split())
+        if what == "code":
+            path, *names = words.split()
+            return code.cut(path, names)
+        if what == "lines":
+            path, first, last = words.split(" | ")
+            return ["```" + code.language(path), *code.between(path, first, last), "```"]
+        if what == "output":
+            path, _, name = words.partition(" ")
+            return ["```", *section(path, name.replace("-", " ")).splitlines(), "```"]
+        if what == "include":
+            return self.lines(page, f"{SOURCE}/{words}")
+        if what in ("proved", "run", "compared"):
+            return [standing(what.capitalize(), words)]
+        if what == "damaged":
+            return damaged()
+        raise Fault(f"{SOURCE}/{page}.md: no directive {what}")
+
+    def lines(self, page, path):
+        made = []
+        for line in read(path).splitlines():
+            found = DIRECTIVE.match(line)
+            made += self.expand(page, found[1], found[2] or "") if found else [line.replace("@_", page.replace("-", "_"))]
+        return made
+
+    def heading(self, index):
+        """The line under a page's title."""
+        if index:
+            return f"*Edition {self.edition}*"
+        return (f"*Edition {self.edition} · [contents](README.md) · [where it departs from the service](../DEPARTURES.md) · "
+                "[the statements behind it](../PROOFS.md)*")
+
+    def page(self, name):
+        """A page's text. Under its title stands its edition; under each table stands which of the three it is."""
+        lines = self.lines(name, f"{SOURCE}/{name}.md")
+        if not lines or not lines[0].startswith("# "):
+            raise Fault(f"{SOURCE}/{name}.md does not begin with a title")
+        lines = [lines[0], "", self.heading(name == "README")] + lines[1:]
+        held(name, lines)
+        return "\n".join(lines) + "\n"
+
+
+def damaged():
+    """The damaged capture piece by piece, from the tool that works its listing out."""
+    from listing import DAMAGED
+
+    lines = ["| octets | what they are | what is listed |", "|---|---|---|"]
+    for words, octets, listed in DAMAGED:
+        lines.append(f"| {octets} | {words} | {' '.join(f'`{line}`' for line in listed)} |")
+    return lines
+
+
+def held(name, lines):
+    """Fails where a table has no line behind it that says which of the three it is."""
+    for i, line in enumerate(lines):
+        ends = line.startswith("|") and not (i + 1 < len(lines) and lines[i + 1].startswith("|"))
+        behind = [after for after in lines[i + 1:i + 3] if after]
+        if ends and not (behind and STANDING.match(behind[0])):
+            raise Fault(f"{name}: no line says which of the three the table is that ends with {line}")
+
+
+def names():
+    """The pages, by their sources; those with a dot in their name are included by others."""
+    return sorted(file[:-3] for file in os.listdir(SOURCE) if file.endswith(".md") and "." not in file[:-3])
+
+
+def made():
+    """Every file of docs/reference/, by its name."""
+    maker = Maker()
+    files = {name + ".md": maker.page(name) for name in names()}
+    return {**files, **maker.pictures.made}
