@@ -3,14 +3,13 @@
 The tables of the flags and of the fields stand side by side. What room the pictures leave is shared out among the rows of the tables, and on the right page
 among the lines of code, so that full pages are dense and the others are not half empty."""
 import pages
+import sheet
 from pages import element, text_of
 
-# The text area in CSS pixels, as paper.css has it: 180 mm by 275 mm.
-WIDTH = 680.3
-HEIGHT = 1039.3
-
-# The least size of a letter in a picture: 8 pt.
-LEAST_LETTER = 8 / 0.75
+# The text area and the least size of a letter in a picture, in CSS pixels.
+WIDTH = sheet.pixels(sheet.TEXT_WIDTH)
+HEIGHT = sheet.pixels(sheet.TEXT_HEIGHT)
+LEAST_LETTER = sheet.LEAST_LETTER * sheet.PIXELS
 
 RIGHT_PAGE = "the code"
 
@@ -18,8 +17,11 @@ RIGHT_PAGE = "the code"
 LEAST_ROW, GOOD_ROW, GREATEST_ROW = 11.2, 12.6, 17.0
 LINE = 14.2
 
-# A line of code, the least and the greatest height, and the one from which its letters are larger.
-LEAST_CODE, GREATEST_CODE, LARGER_CODE = 11.2, 14.0, 12.6
+# The greatest room between two blocks of the left page that is there only to fill it.
+GREATEST_GAP = 26.0
+
+# A line of code: the least and the greatest height, the one from which its letters are larger, and how many of the larger ones fit beside each other.
+LEAST_CODE, GREATEST_CODE, LARGER_CODE, LARGER_COLUMNS = 11.2, 14.0, 12.6, 103
 
 
 def spread(page, folder):
@@ -119,6 +121,15 @@ def fit_tables(left, folder):
     row = min(max((room - heights * scale) / max(rows, 1), LEAST_ROW), GREATEST_ROW)
     for table in left.iter("table"):
         table.set("style", f"line-height: {row - 0.6:.2f}px")
+    spread_out(left, room - heights * scale - rows * row)
+
+
+def spread_out(left, spare):
+    """Puts what room is left between the blocks of the left page."""
+    blocks = [child for child in left if child.get("class") in ("picture", "pair") or child.tag == "table"]
+    gap = min(max(spare, 0) / max(len(blocks), 1), GREATEST_GAP)
+    for block in blocks:
+        block.set("style", block.get("style", "") + f"; margin-bottom: {3 + gap:.1f}px")
 
 
 def table_rows(left):
@@ -149,9 +160,10 @@ def text_height(left):
 def fit_code(right):
     """Gives the lines of code the height that fills the right page."""
     blocks = list(right.iter("pre"))
-    lines = sum(len("".join(block.itertext()).splitlines()) for block in blocks)
+    lines = [line for block in blocks for line in "".join(block.itertext()).splitlines()]
     text = sum(1 + len(text_of(child)) // 125 for child in right if child.tag == "p")
     room = HEIGHT - 30 - text * LINE * 1.3 - len(blocks) * 24
-    height = min(max(room / max(lines, 1), LEAST_CODE), GREATEST_CODE)
+    height = min(max(room / max(len(lines), 1), LEAST_CODE), GREATEST_CODE)
+    larger = height >= LARGER_CODE and max(map(len, lines), default=0) <= LARGER_COLUMNS
     for block in blocks:
-        block.set("style", f"line-height: {height:.2f}px; font-size: {8 if height >= LARGER_CODE else 7.5}pt")
+        block.set("style", f"line-height: {height:.2f}px; font-size: {8 if larger else 7.5}pt")

@@ -3,6 +3,7 @@ import re
 import subprocess
 import xml.etree.ElementTree as ElementTree
 from dataclasses import dataclass
+from html import unescape
 from pathlib import Path
 
 from tables import merge_cells, text_of
@@ -127,3 +128,9 @@ def least_letter(path):
     """The smallest size of letters that an SVG gives, in CSS pixels; a browser's own where it gives none."""
     sizes = [float(part.get("font-size").replace("px", "")) for part in ElementTree.parse(path).iter() if part.get("font-size")]
     return min(sizes, default=16.0)
+
+
+def title_of_file(path):
+    """The first heading of a page that is made."""
+    found = re.search(r"<h1[^>]*>(.*?)</h1>", path.read_text(encoding="utf-8"), re.DOTALL)
+    return "" if found is None else " ".join(unescape(re.sub(r"<[^>]*>", "", found.group(1))).split())

@@ -33,8 +33,8 @@ class Site:
 
     def place(self, source):
         """Where a file of the repository stands in the set; asks for it where it is not a page."""
-        if source.parent == pages.reference(self.root) and (source.stem in self.names or source.name == "README.md"):
-            return "index.html" if source.name == "README.md" else source.stem + ".html"
+        if source.parent == pages.reference(self.root) and source.suffix == ".md" and source.stem in self.names + ["README"]:
+            return "index.html" if source.stem == "README" else source.stem + ".html"
         if source not in self.needed:
             self.needed.append(source)
         if source.parent == pages.reference(self.root) and source.suffix in PICTURES:
