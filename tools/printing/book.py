@@ -52,9 +52,9 @@ def is_old():
 
 
 def sources():
-    """The files that the book is made of; one that is copied stands below files/ with .html behind its name."""
+    """The files that the book is made of; one that is copied stands below files/ with .html behind its name. A folder is newer where a file of it is gone."""
     yield from (ROOT / "VERSION", ROOT / "tools" / "book", *Path(__file__).parent.glob("*.*"))
-    yield from pages.reference(ROOT).iterdir()
+    yield from (pages.reference(ROOT), *pages.reference(ROOT).iterdir())
     for copy in (MADE / "files").rglob("*.html"):
         if copy.name != "index.html":
             yield ROOT / copy.relative_to(MADE / "files").with_suffix("")

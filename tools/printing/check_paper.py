@@ -3,6 +3,7 @@ footers, and the page numbers of the table of contents."""
 import re
 
 import pages
+import paper
 import pdf
 import sheet
 
@@ -21,7 +22,7 @@ def check(root, made, work):
     sheets = pdf.read(path, work)
     places = pdf.destinations(path)
     titles = {name: pages.title_of_file(made / (name + ".html")) for name, _ in pages.entries(root)}
-    wrong = []
+    wrong = (work / paper.SAID).read_text(encoding="utf-8").splitlines()
     for page in sheets:
         wrong += outside_margins(page) + header_and_footer(page, pages.edition(root), set(titles.values()))
         wrong += lone_heading(page, places) + half_empty(page, len(sheets))
@@ -34,13 +35,14 @@ def outside_margins(page):
     """Words and ink in the margins; the lines of the header and the footer are judged by their words."""
     left, right = sheet.sides(page.number)
     bottom = sheet.TOP + sheet.TEXT_HEIGHT
-    strips = [("left", 0, sheet.PAGE_HEIGHT, 0, left - NEAR), ("right", 0, sheet.PAGE_HEIGHT, right + NEAR, sheet.PAGE_WIDTH),
-              ("upper", 0, sheet.HEADER[0], 0, sheet.PAGE_WIDTH), ("upper", sheet.HEADER[1], sheet.TOP - NEAR, 0, sheet.PAGE_WIDTH),
-              ("lower", bottom + NEAR, sheet.FOOTER[0], 0, sheet.PAGE_WIDTH), ("lower", sheet.FOOTER[1], sheet.PAGE_HEIGHT, 0, sheet.PAGE_WIDTH)]
-    wrong = [f"page {page.number}: ink in the {name} margin" for name, *strip in strips if page.ink(*strip)]
-    for word in page.words:
-        if word.left < left - NEAR or word.right > right + NEAR:
-            wrong.append(f"page {page.number}: outside the text area: {word.text}")
+    inked = {"left": page.ink(0, sheet.PAGE_HEIGHT, 0, left - NEAR),
+             "right": page.ink(0, sheet.PAGE_HEIGHT, right + NEAR),
+             "upper": page.ink(0, sheet.HEADER[0]) or page.ink(sheet.HEADER[1], sheet.TOP - NEAR),
+             "lower": page.ink(bottom + NEAR, sheet.FOOTER[0]) or page.ink(sheet.FOOTER[1], sheet.PAGE_HEIGHT)}
+    wrong = [f"page {page.number}: ink in the {name} margin" for name, found in inked.items() if found]
+    words = [word.text for word in page.words if word.left < left - NEAR or word.right > right + NEAR]
+    if words:
+        wrong.append(f"page {page.number}: outside the text area: {' '.join(words[:8])}")
     return wrong
 
 

@@ -142,11 +142,11 @@ def table_rows(left):
 def sized_pictures(tree, folder):
     """Each picture with its width, its height and its smallest letter, in CSS pixels, as it is printed where it is at most as wide as the page."""
     for picture in tree.iter("img"):
-        path = folder / picture.get("src")
-        if path.suffix == ".svg" and path.exists():
-            width, height = pages.picture_size(path)
+        drawing = pages.drawing(folder / picture.get("src"))
+        if drawing is not None:
+            width, height = pages.picture_size(drawing)
             fit = min(1.0, WIDTH / width)
-            yield picture, width * fit, height * fit, pages.least_letter(path) * fit
+            yield picture, width * fit, height * fit, pages.least_letter(drawing) * fit
 
 
 def text_height(left):

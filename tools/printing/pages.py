@@ -115,18 +115,25 @@ def template(name):
     return Path(__file__).with_name(name).read_text(encoding="utf-8")
 
 
-def picture_size(path):
+def drawing(path):
+    """An SVG as a tree; none where it is missing or cannot be read, which the check says."""
+    try:
+        return ElementTree.parse(path).getroot() if path.suffix == ".svg" else None
+    except (ElementTree.ParseError, OSError):
+        return None
+
+
+def picture_size(tree):
     """The width and height of an SVG in CSS pixels."""
-    drawing = ElementTree.parse(path).getroot()
-    sizes = [drawing.get("width"), drawing.get("height")]
+    sizes = [tree.get("width"), tree.get("height")]
     if None in sizes:
-        sizes = (drawing.get("viewBox") or "").split()[2:]
+        sizes = (tree.get("viewBox") or "0 0 1 1").split()[2:]
     return tuple(float(size.replace("px", "")) for size in sizes)
 
 
-def least_letter(path):
+def least_letter(tree):
     """The smallest size of letters that an SVG gives, in CSS pixels; a browser's own where it gives none."""
-    sizes = [float(part.get("font-size").replace("px", "")) for part in ElementTree.parse(path).iter() if part.get("font-size")]
+    sizes = [float(part.get("font-size").replace("px", "")) for part in tree.iter() if part.get("font-size")]
     return min(sizes, default=16.0)
 
 
@@ -134,3 +141,13 @@ def title_of_file(path):
     """The first heading of a page that is made."""
     found = re.search(r"<h1[^>]*>(.*?)</h1>", path.read_text(encoding="utf-8"), re.DOTALL)
     return "" if found is None else " ".join(unescape(re.sub(r"<[^>]*>", "", found.group(1))).split())
+
+
+def copy_picture(source, target):
+    """Copies a picture; an SVG's letters are of the book's family where it names none."""
+    target.parent.mkdir(parents=True, exist_ok=True)
+    if source.suffix == ".svg":
+        drawing = source.read_text(encoding="utf-8")
+        target.write_text(drawing.replace('font-family="sans-serif"', 'font-family="Liberation Sans, Arial, sans-serif"'), encoding="utf-8")
+    else:
+        target.write_bytes(source.read_bytes())

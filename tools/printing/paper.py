@@ -7,28 +7,33 @@ from string import Template
 
 import kinds
 import pages
+import sheet
 from pages import HEADINGS, element, text_of
 from screen import OUTSIDE
 
-# Above so many lines, half a page, a table or a block of code may break over two pages.
-TABLE_LINES = 34
-CODE_LINES = 42
+# Half a page in points: what is higher may break over two pages.
+HALF_PAGE = sheet.TEXT_HEIGHT * sheet.POINTS / 2
 
-# About how many letters stand on one line of a table.
-TABLE_LETTERS = 130
+# About what a line of code takes in points, and in a table a row beside its lines, a line, a letter and the space between two columns.
+CODE_LINE = 9.4
+ROW, LINE, LETTER, BETWEEN = 2.6, 10.0, 4.1, 11.3
+
+# What WeasyPrint says of a document, beside it.
+SAID = "weasyprint.txt"
 
 
 def make(root, work, book):
     """Makes the PDF in a folder, and returns its path; the document that it is set from is left beside it."""
     edition = pages.edition(root)
-    sections = [section(root, page, [other.name for other in book]) for page in book]
+    sections = [section(root, work, page, [other.name for other in book]) for page in book]
     document = Template(pages.template("paper.html")).substitute(
         edition=html.escape(edition), style=pages.template("paper.css"), contents=contents(book),
         body="\n".join(pages.written(part) for part in sections))
     source = work / "paper.html"
     source.write_text(document, encoding="utf-8")
     made = work / "book.pdf"
-    done = subprocess.run(["weasyprint", "--quiet", "--encoding", "utf-8", str(source), str(made)], check=False, capture_output=True, text=True)
+    done = subprocess.run(["weasyprint", "--encoding", "utf-8", str(source), str(made)], check=False, capture_output=True, text=True)
+    (work / SAID).write_text(done.stderr, encoding="utf-8")
     if done.returncode != 0 or not made.exists():
         raise pages.Wrong("weasyprint: " + done.stderr.strip())
     return made
@@ -39,7 +44,7 @@ def contents(book):
     return "\n".join(f'<li><a href="#{page.name}">{html.escape(page.entry)}</a></li>' for page in book)
 
 
-def section(root, page, names):
+def section(root, work, page, names):
     """A page as a part of the document."""
     tree = deepcopy(page.tree)
     name_anchors(tree, page.name)
@@ -49,7 +54,10 @@ def section(root, page, names):
     keep_together(tree)
     parts = kinds.spread(page, folder) if page.is_kind() else list(tree)
     for picture in tree.iter("img"):
-        picture.set("src", (folder / picture.get("src")).as_uri())
+        source = folder / picture.get("src")
+        if source.is_file():
+            pages.copy_picture(source, work / source.name)
+        picture.set("src", source.name)
     return element("section", None, parts, class_="kind" if page.is_kind() else "flow")
 
 
@@ -90,9 +98,9 @@ def print_as_text(link, target, root):
 def keep_together(tree):
     """Marks what must not break over two pages, and the lines that belong to what follows them."""
     for child in tree.iter():
-        if child.tag == "table" and table_lines(child) <= TABLE_LINES:
+        if child.tag == "table" and table_height(child) <= HALF_PAGE:
             child.set("class", "whole")
-        elif child.tag == "pre" and len("".join(child.itertext()).splitlines()) <= CODE_LINES:
+        elif child.tag == "pre" and len("".join(child.itertext()).splitlines()) * CODE_LINE <= HALF_PAGE:
             child.set("class", "whole")
         elif child.tag == "p" and child.find("img") is not None:
             child.set("class", "picture")
@@ -103,6 +111,18 @@ def keep_together(tree):
             line.set("class", "leads")
 
 
-def table_lines(table):
-    """About how many lines a table takes."""
-    return sum(1 + len(text_of(row)) // TABLE_LETTERS for row in table.iter("tr"))
+def table_height(table):
+    """About how high a table is, in points."""
+    rows = [[text_of(cell) for cell in row] for row in table.iter("tr")]
+    widths = column_widths(rows)
+    return sum(ROW + LINE * max(1 + len(cell) // width for cell, width in zip(row, widths)) for row in rows)
+
+
+def column_widths(rows):
+    """About how many letters each column has room for: each has its longest word, and what is left goes to those that have more to say."""
+    columns = [[row[column] for row in rows if column < len(row)] for column in range(max(map(len, rows)))]
+    longest = [max(map(len, cells)) for cells in columns]
+    least = [max((len(word) for cell in cells for word in cell.split()), default=1) for cells in columns]
+    room = (sheet.TEXT_WIDTH * sheet.POINTS - BETWEEN * (len(columns) - 1)) / LETTER
+    share = min(max((room - sum(least)) / max(sum(longest) - sum(least), 1), 0), 1)
+    return [int(narrow + (wide - narrow) * share) + 1 for narrow, wide in zip(least, longest)]

@@ -111,9 +111,7 @@ def write_file(site, source):
     """Puts one file or folder of the repository into the set."""
     place = site.place(source)
     if source.suffix in PICTURES:
-        path = site.target / place
-        path.parent.mkdir(parents=True, exist_ok=True)
-        shutil.copy(source, path)
+        pages.copy_picture(source, site.target / place)
         return
     name = source.relative_to(site.root).as_posix()
     if source.is_dir():
