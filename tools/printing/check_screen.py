@@ -42,16 +42,16 @@ def check(made, work):
 
 def dead_links(made):
     """The links that lead to no file of the set, or to no anchor in it."""
-    read = {}
-    for path in sorted(made.rglob("*.html")):
-        read[path.resolve()] = Links()
-        read[path.resolve()].feed(path.read_text(encoding="utf-8"))
-    wrong = []
-    for path, page in read.items():
-        for link in page.links:
-            if not OUTSIDE.match(link) and is_dead(link, path, read, made.resolve()):
-                wrong.append(f"{path.relative_to(made.resolve())}: dead link: {link}")
-    return wrong
+    made = made.resolve()
+    read = {path: read_links(path) for path in sorted(made.rglob("*.html"))}
+    links = [(path, link) for path, page in read.items() for link in page.links if not OUTSIDE.match(link)]
+    return [f"{path.relative_to(made)}: dead link: {link}" for path, link in links if is_dead(link, path, read, made)]
+
+
+def read_links(path):
+    page = Links()
+    page.feed(path.read_text(encoding="utf-8"))
+    return page
 
 
 def is_dead(link, path, read, made):

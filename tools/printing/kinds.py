@@ -13,8 +13,10 @@ LEAST_LETTER = sheet.LEAST_LETTER * sheet.PIXELS
 
 RIGHT_PAGE = "the code"
 
-# A row of a table: the least height, the one for which pictures are made smaller, and the greatest; and what a line of text takes.
+# A row of a table: the least height, the one for which pictures are made smaller, and the greatest; how much of it is space and rule below its line; and what a
+# line of text takes.
 LEAST_ROW, GOOD_ROW, GREATEST_ROW = 11.2, 12.6, 17.0
+ROW_EDGE = 1.4
 LINE = 14.2
 
 # The greatest room between two blocks of the left page that is there only to fill it.
@@ -24,8 +26,8 @@ GREATEST_GAP = 26.0
 LEAST_CODE, GREATEST_CODE, LARGER_CODE, LARGER_COLUMNS = 11.2, 14.0, 12.6, 103
 
 
-def spread(page, folder):
-    """The two boxes of a kind's page, left and right, of its tree and of the folder with its pictures."""
+def spread(page, folder, less):
+    """The two boxes of a kind's page, left and right; the folder has its pictures, and some CSS pixels of the pages' height are not counted on."""
     top, sections = cut(page.tree)
     names = [text_of(section[0]).lower() for section in sections]
     turn = names.index(RIGHT_PAGE) if RIGHT_PAGE in names else len(sections)
@@ -33,8 +35,8 @@ def spread(page, folder):
     left.extend(top[2:] if is_note(top[1:2]) else top[1:])
     left.extend(laid_out(sections[:turn]))
     right = element("div", None, [child for section in sections[turn:] for child in section], class_="right")
-    fit_tables(left, folder)
-    fit_code(right)
+    fit_tables(left, folder, HEIGHT - less)
+    fit_code(right, HEIGHT - less)
     return [left, right]
 
 
@@ -108,20 +110,24 @@ def side_by_side(narrow, wide):
     return element("div", None, [first, second], class_="pair")
 
 
-def fit_tables(left, folder):
+def fit_tables(left, folder, page_height):
     """Gives the rows of the left page's tables the height that fills the page; where it is small, the pictures are made a little smaller first."""
     rows = table_rows(left)
-    room = HEIGHT - text_height(left)
+    room = page_height - text_height(left)
     pictures = list(sized_pictures(left, folder))
     heights = sum(height for _, _, height, _ in pictures)
     least = max((LEAST_LETTER / letter for _, _, _, letter in pictures), default=1.0)
     scale = min(max((room - rows * GOOD_ROW) / max(heights, 1.0), least), 1.0)
-    for picture, width, height, _ in pictures:
-        picture.set("style", f"width: {width * scale:.1f}px; height: {height * scale:.1f}px")
+    resize(pictures, scale)
     row = min(max((room - heights * scale) / max(rows, 1), LEAST_ROW), GREATEST_ROW)
     for table in left.iter("table"):
-        table.set("style", f"line-height: {row - 0.6:.2f}px")
+        table.set("style", f"line-height: {row - ROW_EDGE:.2f}px")
     spread_out(left, room - heights * scale - rows * row)
+
+
+def resize(pictures, scale):
+    for picture, width, height, _ in pictures:
+        picture.set("style", f"width: {width * scale:.1f}px; height: {height * scale:.1f}px")
 
 
 def spread_out(left, spare):
@@ -154,15 +160,15 @@ def text_height(left):
     lines = sum(1 + len(text_of(child)) // 135 for child in left if child.tag == "p" and child.find("img") is None)
     headings = sum(1 for _ in left.iter("h2"))
     pictures = sum(1 for _ in left.iter("img"))
-    return 36 + lines * LINE + headings * 21 + pictures * 6
+    return 25 + lines * LINE + headings * 21 + pictures * 6
 
 
-def fit_code(right):
+def fit_code(right, page_height):
     """Gives the lines of code the height that fills the right page."""
     blocks = list(right.iter("pre"))
     lines = [line for block in blocks for line in "".join(block.itertext()).splitlines()]
     text = sum(1 + len(text_of(child)) // 125 for child in right if child.tag == "p")
-    room = HEIGHT - 30 - text * LINE * 1.3 - len(blocks) * 24
+    room = page_height - 30 - text * LINE * 1.3 - len(blocks) * 24
     height = min(max(room / max(len(lines), 1), LEAST_CODE), GREATEST_CODE)
     larger = height >= LARGER_CODE and max(map(len, lines), default=0) <= LARGER_COLUMNS
     for block in blocks:

@@ -8,8 +8,6 @@ from pathlib import Path
 
 from tables import merge_cells, text_of
 
-HEADINGS = ("h1", "h2", "h3", "h4")
-
 ENTRY = re.compile(r"\s*(?:\d+[.)]|[-*+])\s+\[(.+?)\]\(([^/)#]+)\.md\)")
 
 KIND = re.compile(r"Kind \d+\b")
@@ -76,21 +74,28 @@ def markdown(path):
     if made.returncode != 0:
         raise Wrong(f"{path}: {made.stderr.strip()}")
     try:
-        tree = ElementTree.fromstring("<div>" + made.stdout + "</div>")
+        tree = ElementTree.fromstring("<div>" + plain(made.stdout) + "</div>")
     except ElementTree.ParseError as wrong:
         raise Wrong(f"{path}: not well formed as HTML: {wrong}") from wrong
-    plain(tree)
+    part_edition(tree)
     return tree
 
 
-def plain(tree):
+def plain(text):
     """Takes out what only pandoc needs: the widths that it guesses for columns, and the classes of rows."""
-    for parent in list(tree.iter()):
-        for child in list(parent):
-            if child.tag == "colgroup":
-                parent.remove(child)
-        if parent.tag == "tr":
-            parent.attrib.pop("class", None)
+    text = re.sub(r"<colgroup>.*?</colgroup>", "", text, flags=re.DOTALL)
+    return re.sub(r'<tr class="(?:header|odd|even)">', "<tr>", text)
+
+
+def part_edition(tree):
+    """Makes the line of the edition, below a title, a paragraph of its own where text follows it without an empty line."""
+    line = tree[1] if len(tree) > 1 and tree[0].tag == "h1" else None
+    if line is None or line.tag != "p" or len(line) == 0 or line[0].tag != "em" or (line.text or "").strip() or not (line[0].tail or "").strip():
+        return
+    note = line[0]
+    line.remove(note)
+    line.text, note.tail = note.tail.lstrip(), None
+    tree.insert(1, element("p", None, [note]))
 
 
 def element(tag, text=None, children=(), **attributes):

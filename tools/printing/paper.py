@@ -7,8 +7,9 @@ from string import Template
 
 import kinds
 import pages
+import pdf
 import sheet
-from pages import HEADINGS, element, text_of
+from pages import element, text_of
 from screen import OUTSIDE
 
 # Half a page in points: what is higher may break over two pages.
@@ -18,16 +19,32 @@ HALF_PAGE = sheet.TEXT_HEIGHT * sheet.POINTS / 2
 CODE_LINE = 9.4
 ROW, LINE, LETTER, BETWEEN = 2.6, 10.0, 4.1, 11.3
 
+# How often the book is set at most, and how many CSS pixels a kind that runs over is given less each time.
+TRIES = 5
+STEP = 8
+
 # What WeasyPrint says of a document, beside it.
 SAID = "weasyprint.txt"
 
 
 def make(root, work, book):
-    """Makes the PDF in a folder, and returns its path; the document that it is set from is left beside it."""
-    edition = pages.edition(root)
-    sections = [section(root, work, page, [other.name for other in book]) for page in book]
+    """Makes the PDF in a folder, and returns its path; the document that it is set from is left beside it. How high text is, is known only when it is set:
+    a kind that needs more than its two pages is given less room for its rows and lines, and all is set again."""
+    less = {page.name: 0 for page in book if page.is_kind()}
+    for _ in range(TRIES):
+        made = set_once(root, work, book, less)
+        over = longer_kinds(book, pdf.destinations(made))
+        if not over:
+            break
+        less.update({name: less[name] + STEP for name in over})
+    return made
+
+
+def set_once(root, work, book, less):
+    """Writes the document and has it set."""
+    sections = [section(root, work, page, [other.name for other in book], less) for page in book]
     document = Template(pages.template("paper.html")).substitute(
-        edition=html.escape(edition), style=pages.template("paper.css"), contents=contents(book),
+        edition=html.escape(pages.edition(root)), style=pages.template("paper.css"), contents=contents(book),
         body="\n".join(pages.written(part) for part in sections))
     source = work / "paper.html"
     source.write_text(document, encoding="utf-8")
@@ -39,12 +56,25 @@ def make(root, work, book):
     return made
 
 
+def longer_kinds(book, places):
+    """The kinds whose left or right page runs over."""
+    over = []
+    for page, behind in zip(book, book[1:] + [None]):
+        if page.is_kind():
+            start, _ = places.get(page.name, (0, 0))
+            code, _ = places.get(f"{page.name}--{kinds.RIGHT_PAGE.replace(' ', '-')}", (0, 0))
+            after, _ = places.get(behind.name, (0, 0)) if behind else (start + 2, 0)
+            if (code, after) != (start + 1, start + 2):
+                over.append(page.name)
+    return over
+
+
 def contents(book):
     """The lines of the table of contents; the style adds the page numbers."""
     return "\n".join(f'<li><a href="#{page.name}">{html.escape(page.entry)}</a></li>' for page in book)
 
 
-def section(root, work, page, names):
+def section(root, work, page, names, less):
     """A page as a part of the document."""
     tree = deepcopy(page.tree)
     name_anchors(tree, page.name)
@@ -52,7 +82,7 @@ def section(root, work, page, names):
     move_links(tree, page.name, names, folder, root)
     page = pages.Page(page.name, page.entry, page.title, tree)
     keep_together(tree)
-    parts = kinds.spread(page, folder) if page.is_kind() else list(tree)
+    parts = kinds.spread(page, folder, less[page.name]) if page.is_kind() else list(tree)
     for picture in tree.iter("img"):
         source = folder / picture.get("src")
         if source.is_file():
@@ -106,9 +136,8 @@ def keep_together(tree):
             child.set("class", "picture")
         elif child.tag == "p" and text_of(child).endswith(":"):
             child.set("class", "leads")
-    for title, line in zip(tree, list(tree)[1:]):
-        if title.tag in HEADINGS and kinds.is_note([line]):
-            line.set("class", "leads")
+    if len(tree) > 1 and kinds.is_note([tree[1]]):
+        tree[1].set("class", "leads")
 
 
 def table_height(table):

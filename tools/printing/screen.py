@@ -53,16 +53,22 @@ class Site:
 
     def write(self, place, title, tree, folder, navigation):
         """Writes one page, with its links as the set has them."""
-        for name in ("href", "src"):
-            for element in tree.iter():
-                if name in element.attrib:
-                    element.set(name, self.moved(element.get(name), folder, place))
+        for element in tree.iter():
+            element.attrib.update({name: self.moved(element.get(name), folder, place) for name in ("href", "src") if name in element.attrib})
         wrap(tree, "table", "table")
+        mark_pictures(tree)
         path = self.target / place
         path.parent.mkdir(parents=True, exist_ok=True)
         path.write_text(self.template.substitute(
             title=html.escape(title), edition=html.escape(self.edition), style=os.path.relpath("book.css", os.path.dirname(place) or "."),
             navigation=navigation, body=pages.inside(tree)), encoding="utf-8")
+
+
+def mark_pictures(tree):
+    """Gives a paragraph with a picture a class, for it is the box in which the picture scrolls."""
+    for paragraph in tree.iter("p"):
+        if paragraph.find("img") is not None:
+            paragraph.set("class", "picture")
 
 
 def place_of_file(source, root):
@@ -82,6 +88,11 @@ def make(root, target, book):
         before = book[number - 1] if number > 0 else None
         behind = book[number + 1] if number + 1 < len(book) else None
         site.write(page.name + ".html", page.title, deepcopy(page.tree), pages.reference(root), navigation(before, behind))
+    write_files(site)
+
+
+def write_files(site):
+    """Puts the files that are needed into the set, and those that these need."""
     done = 0
     while done < len(site.needed):
         write_file(site, site.needed[done])

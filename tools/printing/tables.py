@@ -33,10 +33,8 @@ def repeats(rows, columns, any_text):
     """For each row, how many of its first cells repeat those of the row above."""
     counts = [0]
     for above, row in zip(rows, rows[1:]):
-        count = 0
-        while count < columns and same(above[count], row[count], any_text):
-            count += 1
-        counts.append(count)
+        alike = [same(one, other, any_text) for one, other in zip(above[:columns], row[:columns])]
+        counts.append(len(list(takewhile(bool, alike))))
     return counts
 
 
@@ -56,8 +54,7 @@ def mark_groups(table, repeated):
 def remove(table, rows, repeated):
     """Takes the repeated cells away, and makes the first of each as high as its rows."""
     for row, (element, count) in enumerate(zip(table.findall("tbody/tr"), repeated)):
-        for cell in rows[row][:count]:
-            element.remove(cell)
+        element[:] = rows[row][count:]
         raise_cells(rows[row][count:], count, repeated[row + 1:])
 
 
@@ -71,10 +68,10 @@ def raise_cells(cells, first, repeated_below):
 
 def wrap(tree, tag, name):
     """Puts each element of a tag into a box of its own, of a class."""
-    for parent in list(tree.iter()):
-        for place, child in enumerate(list(parent)):
-            if child.tag == tag and not (parent.tag == "div" and parent.get("class") == name):
-                box = child.makeelement("div", {"class": name})
-                box.tail, child.tail = child.tail, None
-                parent[place] = box
-                box.append(child)
+    places = [(parent, place) for parent in tree.iter() for place, child in enumerate(parent) if child.tag == tag]
+    for parent, place in places:
+        child = parent[place]
+        box = child.makeelement("div", {"class": name})
+        box.tail, child.tail = child.tail, None
+        box.append(child)
+        parent[place] = box
