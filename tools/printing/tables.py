@@ -1,0 +1,77 @@
+"""Makes a table's repeated cells one: where rows follow each other that share their first cells, such a cell stands once, as high as its rows.
+
+In a table of fields (its first columns are "present when" or "bit", then "group") the first two columns are merged. In other tables only cells of words are:
+numbers in rows that follow each other may be equal by chance."""
+import re
+from itertools import takewhile
+
+# The first columns that are merged in a table of fields, whatever stands in them.
+FIELD_COLUMNS = [["present when", "group"], ["bit", "group"]]
+
+# What makes a cell one of words: a hex number has no three small letters in a row.
+WORD = re.compile("[a-z]{3}")
+
+
+def text_of(tree):
+    """All text inside an element, its white space as single blanks."""
+    return " ".join("".join(tree.itertext()).split())
+
+
+def merge_cells(tree):
+    """Merges the repeated cells of all tables in a tree."""
+    for table in tree.iter("table"):
+        head = [text_of(cell) for cell in table.iter("th")]
+        rows = [list(row) for row in table.findall("tbody/tr")]
+        if rows and all(len(row) == len(head) for row in rows):
+            columns = 2 if head[:2] in FIELD_COLUMNS else len(head) - 1
+            repeated = repeats(rows, columns, head[:2] in FIELD_COLUMNS)
+            mark_groups(table, repeated)
+            remove(table, rows, repeated)
+
+
+def repeats(rows, columns, any_text):
+    """For each row, how many of its first cells repeat those of the row above."""
+    counts = [0]
+    for above, row in zip(rows, rows[1:]):
+        alike = [same(one, other, any_text) for one, other in zip(above[:columns], row[:columns])]
+        counts.append(len(list(takewhile(bool, alike))))
+    return counts
+
+
+def same(above, cell, any_text):
+    """Whether a cell says what the one above it says, and does so by more than chance."""
+    text = text_of(cell)
+    return text == text_of(above) and text != "" and (any_text or WORD.search(text) is not None)
+
+
+def mark_groups(table, repeated):
+    """Gives the rows inside a group a class, so that they are set without a rule above them."""
+    for row, count in zip(table.findall("tbody/tr"), repeated):
+        if count > 0:
+            row.set("class", "inner")
+
+
+def remove(table, rows, repeated):
+    """Takes the repeated cells away, and makes the first of each as high as its rows."""
+    for row, (element, count) in enumerate(zip(table.findall("tbody/tr"), repeated)):
+        element[:] = rows[row][count:]
+        raise_cells(rows[row][count:], count, repeated[row + 1:])
+
+
+def raise_cells(cells, first, repeated_below):
+    """Makes each cell, from a column on, as high as the rows below that repeat it, and itself."""
+    for column, cell in enumerate(cells, first):
+        height = 1 + len(list(takewhile(lambda count: count > column, repeated_below)))
+        if height > 1:
+            cell.set("rowspan", str(height))
+
+
+def wrap(tree, tag, name):
+    """Puts each element of a tag into a box of its own, of a class."""
+    places = [(parent, place) for parent in tree.iter() for place, child in enumerate(parent) if child.tag == tag]
+    for parent, place in places:
+        child = parent[place]
+        box = child.makeelement("div", {"class": name})
+        box.tail, child.tail = child.tail, None
+        box.append(child)
+        parent[place] = box
