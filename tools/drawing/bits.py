@@ -117,19 +117,19 @@ def draw_strip(picture, strip, label, first):
         draw_run_name(picture, strip, run)
 
 
-def octets_picture(title, names, first_octet):
+def octets_picture(title, names, first_octet, shown):
     """A strip for each octet, the first on top."""
-    picture = Picture(title)
+    picture = Picture(title, shown)
     edges, y = edges_of(names), picture.top + 3
     for octet in range(len(names) // 8):
         strip = Strip(names[8 * octet:8 * octet + 8], edges, y)
         draw_strip(picture, strip, "octet %d" % (first_octet + octet), 8 * octet)
-        y += strip.high + 8
+        y += strip.high + 6
     return picture.svg(y)
 
 
 def flags_picture(title, rows, flags_octets):
-    """Every bit of the flags; each has its row."""
+    """Every bit of the flags; each has its row. The title is not shown: a heading stands above it."""
     names = [None] * (8 * flags_octets)
     for row in rows:
         add_name(names, bits_of_row(cell(row, "bit")), short_name(cell(row, "what it says")))
@@ -137,7 +137,7 @@ def flags_picture(title, rows, flags_octets):
         raise ValueError("bit %d of the flags has no row" % names.index(None))
     if names[0] != MORE:
         raise ValueError("bit 0 of the flags is %s and not %s" % (names[0], MORE))
-    return octets_picture(title, names, 0)
+    return octets_picture(title, names, 0, shown=False)
 
 
 def feature_picture(title, rows, first_octet):
@@ -147,4 +147,4 @@ def feature_picture(title, rows, first_octet):
     names = [None] * 32
     for row in rows:
         add_name(names, bits_of_row(cell(row, "bit")), cell(row, "name"))
-    return octets_picture(title, [name or RESERVED for name in names], first_octet)
+    return octets_picture(title, [name or RESERVED for name in names], first_octet, shown=True)

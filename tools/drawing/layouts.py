@@ -3,8 +3,8 @@ from .names import draw_centred, draw_hanging, draw_strokes, name_lines
 from .rows import groups_of
 from .svg import FLAGS, GREY, INNER, LINE, MARGIN, TINTS, Picture, text_width
 
-MOST_OCTETS = 12
-LABEL = 16
+MOST_OCTETS = 14
+LABEL = 15
 NUMBERS = 14
 MOST_LINES = 3
 
@@ -30,7 +30,8 @@ def width_of_row(row):
 def label_of(group, wide):
     """What stands above a group: its bit, and its name where that says more than its field's; just the bit where that has no room."""
     if group.bit == 0:
-        return "%s: bit 0 is 0" % group.name
+        whole = "%s: bit 0 is 0" % group.name
+        return whole if text_width(whole, bold=True) <= wide else group.name
     bit = "bit %d" % group.bit
     if [field.name for field in group.fields] == [group.name]:
         return bit
@@ -73,7 +74,7 @@ def draw_flags(picture, flags_octets, y, unit, high):
 def row_height(row, unit):
     """High enough for the name with the most lines."""
     lines = [name_lines(field.name, field.octets * unit, MOST_LINES) or [] for group in row for field in group.fields]
-    return NUMBERS + LINE * max([2] + [len(of_field) for of_field in lines]) + 6
+    return NUMBERS + LINE * max([1] + [len(of_field) for of_field in lines]) + 6
 
 
 def draw_row(picture, row, x, y, unit):
@@ -86,8 +87,8 @@ def draw_row(picture, row, x, y, unit):
 
 
 def whole_picture(title, rows, flags_octets):
-    """The notification with all groups present, in rows of whole groups."""
-    picture = Picture(title)
+    """The notification with all groups present, in rows of whole groups. The title is not shown: a heading stands above it."""
+    picture = Picture(title, shown=False)
     groups = groups_of(rows, flags_octets)
     lines = rows_of_groups(groups, flags_octets)
     unit = INNER / max([flags_octets + width_of_row(lines[0])] + [width_of_row(row) for row in lines])
@@ -96,4 +97,4 @@ def whole_picture(title, rows, flags_octets):
     for row in lines:
         y = draw_row(picture, row, x, y + LABEL, unit) + 4
         x = MARGIN
-    return picture.svg(y + 4)
+    return picture.svg(y)

@@ -3,7 +3,7 @@ from .names import draw_centred, draw_hanging, draw_strokes, name_lines
 from .rows import groups_of, parts_of
 from .svg import FLAGS, INNER, MARGIN, TINTS, Picture, text_width
 
-HEADING = 17
+HEADING = 15
 
 
 def bit_words(group, wide):
@@ -69,17 +69,17 @@ def last_alone_is_last(parts):
         raise ValueError("More Data is not 0 in the last part alone")
 
 
-def parts_picture(title, parts, fields, payload, flags_octets, names=True):
+def parts_picture(title, parts, fields, payload, flags_octets, names=True, shown=False):
     """The parts of a record, each a strip of the payload's octets; without `names` the groups bear their bits alone."""
-    picture = Picture(title)
+    picture = Picture(title, shown)
     read = parts_of(parts, groups_of(fields, flags_octets), payload, flags_octets)
     last_alone_is_last(read)
-    unit, high, y = INNER / payload, 48 if names else 28, picture.top
+    unit, high, y = INNER / payload, 46 if names else 28, picture.top
     for part in read:
         heading = "part %d of %d: %d octets, More Data %d" % (part.number, len(read), part.octets, part.more)
         picture.text(MARGIN, y + 12, heading, "start")
         y += HEADING
         picture.dashed_box(MARGIN, y, INNER, high)
         hanging = draw_strip(picture, part.flags, part.groups, y, unit, high, names)
-        y += high + draw_hanging(picture, y + high, hanging) + 5
-    return picture.svg(y + 3)
+        y += high + draw_hanging(picture, y + high, hanging) + 4
+    return picture.svg(y)

@@ -73,17 +73,17 @@ def meet(one, other):
 
 
 class Picture:
-    """A picture as it is drawn, its title at the top; `top` is where the rest begins."""
+    """A picture as it is drawn, its title at the top where it is shown; `top` is where the rest begins."""
 
-    def __init__(self, title):
+    def __init__(self, title, shown=True):
         self.title = title
         self.elements = []
         self.texts = []
         self.top = 4
-        for line in lines_of(title, INNER * SMALL / 12, bold=True):
+        for line in lines_of(title, INNER * SMALL / 12, bold=True) if shown else []:
             self.top += 15
             self.text(MARGIN, self.top - 3, line, "start", size=12, bold=True)
-        self.top += 4
+        self.top += 4 if shown else 0
 
     def draw(self, name, style, **numbers):
         """An element with its numbers, then its style, each as SVG names them."""

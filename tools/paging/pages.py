@@ -68,8 +68,7 @@ class Maker:
         """The line under a page's title."""
         if index:
             return f"*Edition {self.edition}*"
-        return (f"*Edition {self.edition} · [contents](README.md) · [where it departs from the service](../DEPARTURES.md) · "
-                "[the statements behind it](../PROOFS.md)*")
+        return f"*Edition {self.edition} · [contents](README.md) · [departures from the service](../DEPARTURES.md) · [statements and proofs](../PROOFS.md)*"
 
     def page(self, name):
         """A page's text. Under its title stands its edition; under each table stands which of the three it is."""

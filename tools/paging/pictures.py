@@ -4,7 +4,12 @@ import drawing
 from .printed import Fault, rows, section
 
 FLAGS = {"cross-trainer": 3}
-NAMES = {"cross-trainer": "cross trainer", "step-climber": "step climber", "stair-climber": "stair climber", "indoor-bike": "indoor bike"}
+
+
+def article(kind):
+    """`a treadmill`, `an indoor bike`."""
+    name = kind.replace("-", " ")
+    return ("an " if name[0] in "aeiou" else "a ") + name
 
 
 class Pictures:
@@ -24,18 +29,18 @@ class Pictures:
         return [{("flags" if column == "flags, forward" else column): cell for column, cell in row.items()} for row in self.rows(name)]
 
     def flags(self, kind):
-        title = f"The flags of a {NAMES.get(kind, kind)}"
+        title = f"The flags of {article(kind)}"
         return title, drawing.flags_picture(title, self.rows(kind + "/flags"), FLAGS.get(kind, 2))
 
     def whole(self, kind):
         fields = self.rows(kind + "/fields")
-        title = f"A {NAMES.get(kind, kind)}'s notification with all groups present"
+        title = f"The notification of {article(kind)} with all groups present"
         return title, drawing.whole_picture(title, fields, FLAGS.get(kind, 2))
 
     def cut_parts(self, kind, payload, table):
-        title = f"A {NAMES.get(kind, kind)}'s record with all groups at payload {payload}"
+        title = f"The record of {article(kind)} with all groups, at payload {payload}"
         fields = self.rows(kind + "/fields")
-        return title, drawing.parts_picture(title, self.part_rows(table), fields, int(payload), FLAGS.get(kind, 2), names=int(payload) <= 20)
+        return title, drawing.parts_picture(title, self.part_rows(table), fields, int(payload), FLAGS.get(kind, 2), int(payload) <= 20, int(payload) > 20)
 
     def parts(self, kind):
         return self.cut_parts(kind, "20", kind + "/parts-at-payload-20")
@@ -62,7 +67,7 @@ class Pictures:
 
     def session(self):
         title = "A session of two clients"
-        return title, drawing.sequence_pictures(title, section("crates/session/stdout", "").splitlines())
+        return title, drawing.sequence_pictures(title, section("crates/session/stdout", "").splitlines(), 470)
 
     def name(self, what, arguments):
         """`treadmill-flags` of a kind, `lost-open` of others."""
