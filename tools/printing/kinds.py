@@ -116,7 +116,7 @@ def fit_tables(left, folder, page_height):
     room = page_height - text_height(left)
     pictures = list(sized_pictures(left, folder))
     heights = sum(height for _, _, height, _ in pictures)
-    least = max((LEAST_LETTER / letter for _, _, _, letter in pictures), default=1.0)
+    least = max((LEAST_LETTER / letter if letter > 0 else 1.0 for _, _, _, letter in pictures), default=1.0)
     scale = min(max((room - rows * GOOD_ROW) / max(heights, 1.0), least), 1.0)
     resize(pictures, scale)
     row = min(max((room - heights * scale) / max(rows, 1), LEAST_ROW), GREATEST_ROW)

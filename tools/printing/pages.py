@@ -12,6 +12,8 @@ ENTRY = re.compile(r"\s*(?:\d+[.)]|[-*+])\s+\[(.+?)\]\(([^/)#]+)\.md\)")
 
 KIND = re.compile(r"Kind \d+\b")
 
+SIZE = re.compile(r"([\d.]+)(?:px)?")
+
 
 class Wrong(Exception):
     """A page cannot be read as it is."""
@@ -129,17 +131,17 @@ def drawing(path):
 
 
 def picture_size(tree):
-    """The width and height of an SVG in CSS pixels."""
-    sizes = [tree.get("width"), tree.get("height")]
-    if None in sizes:
-        sizes = (tree.get("viewBox") or "0 0 1 1").split()[2:]
-    return tuple(float(size.replace("px", "")) for size in sizes)
+    """The width and height of an SVG in CSS pixels: its own, or those of its view."""
+    sizes = [tree.get("width", ""), tree.get("height", "")]
+    if not all(SIZE.fullmatch(size) for size in sizes):
+        sizes = tree.get("viewBox", "0 0 1 1").split()[2:]
+    return tuple(float(SIZE.match(size).group(1)) for size in sizes)
 
 
 def least_letter(tree):
-    """The smallest size of letters that an SVG gives, in CSS pixels; a browser's own where it gives none."""
-    sizes = [float(part.get("font-size").replace("px", "")) for part in tree.iter() if part.get("font-size")]
-    return min(sizes, default=16.0)
+    """The smallest size of letters that an SVG gives, in CSS pixels; 0 where it gives none that can be read here."""
+    sizes = [SIZE.fullmatch(part.get("font-size")) for part in tree.iter() if part.get("font-size")]
+    return min((float(size.group(1)) for size in sizes if size), default=0.0)
 
 
 def title_of_file(path):
