@@ -2,6 +2,7 @@
 from .bits import feature_picture, flags_picture
 from .collecting import lost_picture
 from .cutting import cut_picture
+from .first import first_picture, way_picture
 from .layouts import whole_picture
 from .modes import modes_picture
 from .sequence import sequence_picture, sequence_pictures

@@ -10,6 +10,7 @@ UNIT = (WIDE - MARGIN - LEFT) / 8
 NUMBERS = 15
 RESERVED = "reserved"
 MORE = "More Data"
+MOST_LINES = 3
 
 
 def bits_of_row(words):
@@ -49,14 +50,17 @@ def runs_of(names):
     return runs
 
 
-def widest_piece(name):
-    """How much room a name needs at least: that of its widest piece."""
-    return max(text_width(piece, bold=name == MORE) for piece in re.split(r"(?<=_)| ", name)) + 5
+def room_of(name):
+    """How much room a name needs at least: that of its widest piece, or more where it would have too many lines."""
+    wide = max(text_width(piece, bold=name == MORE) for piece in re.split(r"(?<=_)| ", name))
+    while len(lines_of(name, wide, name == MORE)) > MOST_LINES:
+        wide += 1
+    return wide + 5
 
 
 def edges_of(names):
     """Where the eight columns begin, and the last ends: as wide as each other, but for a name that needs more."""
-    needed = [max(widest_piece(name) for name in names[bit::8]) for bit in reversed(range(8))]
+    needed = [max(room_of(name) for name in names[bit::8]) for bit in reversed(range(8))]
     wide = [need for need in needed if need > UNIT]
     shared = (8 * UNIT - sum(wide)) / (8 - len(wide))
     widths = [need if need > UNIT else shared for need in needed]

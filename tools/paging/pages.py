@@ -9,14 +9,25 @@ from .printed import Fault, read, section, tables
 SOURCE = "docs/source"
 DIRECTIVE = re.compile(r"^\{\{(\S+)(?: (.*))?\}\}$")
 STANDING = re.compile(r"^\*(Proved|Run|Compared): ")
-LINK = re.compile(r"`([^`]+)` in `([^`]+)`")
+NAME = re.compile(r"`([^`]+)`")
 
 
-def standing(kind, words):
-    """Under a table, which of the three it is. Each `name` in `file` must be there."""
-    for name, path in LINK.findall(words):
-        if name not in read(path):
-            raise Fault(f"{path} has no {name}")
+def known():
+    """Every word of the crates' code, definitions and theorems, and the names of the programs and of their files."""
+    words = set()
+    for folder, _, files in os.walk("crates"):
+        words.update(folder.split("/")[-1:])
+        for file in files:
+            if file.endswith((".rt", ".antt")):
+                words.update(re.findall(r"[\w-]+", read(f"{folder}/{file}")))
+    return words
+
+
+def standing(kind, words, names):
+    """Under a table, which of the three it is. Each name in it must be a file, or stand in the crates."""
+    for name in NAME.findall(words):
+        if not os.path.exists(name) and not set(re.findall(r"[\w-]+", name)) <= names:
+            raise Fault(f"no file and no name of the crates: {name}")
     return f"*{kind}: {words}*"
 
 
@@ -25,6 +36,7 @@ class Maker:
         self.tables = tables()
         self.pictures = Pictures(self.tables)
         self.edition = read("VERSION").strip()
+        self.known = known()
 
     def table(self, name):
         if name not in self.tables:
@@ -52,7 +64,7 @@ class Maker:
         if what == "include":
             return self.lines(page, f"{SOURCE}/{words}")
         if what in ("proved", "run", "compared"):
-            return [standing(what.capitalize(), words)]
+            return [standing(what.capitalize(), words, self.known)]
         if what == "damaged":
             return damaged()
         raise Fault(f"{SOURCE}/{page}.md: no directive {what}")

@@ -61,6 +61,17 @@ class Pictures:
         title = {"features": "Octets 0 to 3 of the Feature value: the features", "target-settings": "Octets 4 to 7 of the Feature value: the target settings"}[word]
         return title, drawing.feature_picture(title, self.rows("feature-value/" + word), 0 if word == "features" else 4)
 
+    def first(self):
+        """Document 01's sample of a capture, without its kind and length."""
+        title = "Document 01's notification of an indoor bike, octet by octet"
+        with open("examples/bike.capture", "rb") as file:
+            octets = file.read()[3:]
+        return title, drawing.first_picture(title, self.rows("indoor-bike/fields"), octets, 2)
+
+    def way(self):
+        title = "From the console to the app, and back"
+        return title, drawing.way_picture(title)
+
     def states(self):
         title = "The states of a machine, and the writes that change them"
         return title, drawing.modes_picture(title, self.rows("machine/states"))
