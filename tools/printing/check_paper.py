@@ -101,6 +101,8 @@ def kinds_facing(titles, places, sheets):
         code = places.get(f"{name}--{LEFT_PAGE_END}", (0, 0))
         if start[0] % 2 == 1 or start[0] == 0 or not at_top(start):
             wrong.append(f"page {start[0]}: a kind does not begin at the top of a left page: {name}")
+        if not all(titles[name] in words_between(page, 0, sheet.TOP - NEAR) for page in sheets[start[0] - 1:start[0] + 1]):
+            wrong.append(f"page {start[0]}: a kind's name is not in the headers of its two pages: {name}")
         if after[0] != start[0] + 2 or not at_top(after) or code[0] != start[0] + 1 or not at_top(code):
             wrong.append(f"page {start[0]}: a kind does not take two facing pages, its code the right one: {name}")
     return wrong

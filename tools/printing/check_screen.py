@@ -3,6 +3,7 @@ import html
 import json
 import math
 import re
+import shutil
 import subprocess
 from html.parser import HTMLParser
 from string import Template
@@ -82,10 +83,12 @@ def frame(kind, name, path, width):
 
 def run(harness, work):
     """Opens the page that measures the others, and reads what it writes into itself."""
+    profile = work / "chromium"
     done = subprocess.run(
-        ["chromium", "--headless", "--no-sandbox", "--disable-gpu", "--allow-file-access-from-files", f"--user-data-dir={work / 'chromium'}",
+        ["chromium", "--headless", "--no-sandbox", "--disable-gpu", "--allow-file-access-from-files", f"--user-data-dir={profile}",
          f"--window-size={WIDE},900", "--virtual-time-budget=30000", "--dump-dom", harness.as_uri()],
-        check=False, capture_output=True, text=True, encoding="utf-8", timeout=300)
+        check=False, capture_output=True, text=True, encoding="utf-8")
+    shutil.rmtree(profile, ignore_errors=True)
     result = FOUND.search(done.stdout)
     if result is None:
         raise pages.Wrong("chromium: the pages could not be measured: " + done.stderr.strip()[-500:])

@@ -13,8 +13,8 @@ LEAST_LETTER = sheet.LEAST_LETTER * sheet.PIXELS
 
 RIGHT_PAGE = "the code"
 
-# A row of a table: the least height, the one for which pictures are made smaller, and the greatest; how much of it is space and rule below its line; and what a
-# line of text takes.
+# A row of a table: the least height, the one for which pictures are made smaller, and the greatest; how much of it is space and rule below its line; and
+# what a line of text takes.
 LEAST_ROW, GOOD_ROW, GREATEST_ROW = 11.2, 12.6, 17.0
 ROW_EDGE = 1.4
 LINE = 14.2

@@ -3,6 +3,8 @@ import re
 import subprocess
 import xml.etree.ElementTree as ElementTree
 from dataclasses import dataclass
+from pathlib import Path
+from tempfile import TemporaryDirectory
 
 import pages
 import sheet
@@ -106,10 +108,9 @@ def destinations(path):
 
 def ink(path, work):
     """The rows of dots of each page, as pdftoppm draws them."""
-    for old in work.glob("ink-*.pgm"):
-        old.unlink()
-    output("pdftoppm", "-gray", "-r", str(DOTS * 25.4), path, work / "ink")
-    return [grey_rows(drawn.read_bytes()) for drawn in sorted(work.glob("ink-*.pgm"))]
+    with TemporaryDirectory(dir=work) as folder:
+        output("pdftoppm", "-gray", "-r", str(DOTS * 25.4), path, Path(folder) / "ink")
+        return [grey_rows(drawn.read_bytes()) for drawn in sorted(Path(folder).iterdir())]
 
 
 def grey_rows(data):
