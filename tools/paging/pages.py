@@ -80,7 +80,7 @@ class Maker:
         """The line under a page's title."""
         if index:
             return f"*Edition {self.edition}*"
-        return f"*Edition {self.edition} · [contents](README.md) · [departures from the service](../DEPARTURES.md) · [statements and proofs](../PROOFS.md)*"
+        return f"*Edition {self.edition} · [departures](../DEPARTURES.md) · [statements](../PROOFS.md) · [contents](README.md)*"
 
     def page(self, name):
         """A page's text. Under its title stands its edition; under each table stands which of the three it is."""

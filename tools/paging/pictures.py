@@ -78,7 +78,7 @@ class Pictures:
 
     def session(self):
         title = "A session of two clients"
-        return title, drawing.sequence_pictures(title, section("crates/session/stdout", "").splitlines(), 470)
+        return title, drawing.sequence_pictures(title, section("crates/session/stdout", "").splitlines(), 900)
 
     def name(self, what, arguments):
         """`treadmill-flags` of a kind, `lost-open` of others."""

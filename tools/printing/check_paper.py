@@ -13,6 +13,9 @@ NEAR = 0.5
 # A blank strip lower than this is a line's or a paragraph's, in millimetres.
 STRIP = 10
 
+# How high a title is, in millimetres.
+TITLE = 6
+
 LEFT_PAGE_END = "the-code"
 
 
@@ -124,10 +127,8 @@ def contents(entries, titles, places, sheets):
 
 
 def title_page(title, place, sheets):
-    """The page on which a title stands at its destination; 0 where it stands at none."""
+    """The page on which a title stands at its destination; 0 where it stands at none. What stands beside it is to its right."""
     if place is None:
         return 0
-    for text, top, _ in sheets[place[0] - 1].lines():
-        if abs(top - place[1]) < 3 and text.startswith(title):
-            return place[0]
-    return 0
+    number, top = place
+    return number if words_between(sheets[number - 1], top - 1, top + TITLE).startswith(title) else 0
