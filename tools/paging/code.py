@@ -4,6 +4,7 @@ import re
 
 from .printed import Fault, read
 
+MOST_COLUMNS = 100
 LANGUAGES = {".rt": "rust", ".c": "c", ".h": "c", ".antt": ""}
 
 
@@ -52,9 +53,19 @@ def between(path, first, last):
     raise Fault(f"{path}: no line after {first} begins with {last}")
 
 
-def cut(path, names):
-    """The whole of a file, or pieces of it one behind the other, as a fenced block."""
-    lines = read(path).rstrip("\n").splitlines() if not names else []
-    for i, name in enumerate(names):
-        lines += ([""] if i else []) + piece(path, name)
+def block(path, lines):
+    """Lines as a fenced block, none too long for paper."""
+    for line in lines:
+        if len(line) > MOST_COLUMNS:
+            raise Fault(f"{path}: a line of {len(line)} columns has no room on paper: {line}")
     return ["```" + language(path), *lines, "```"]
+
+
+def cut(path, names):
+    """The whole of a file, or pieces of it, each a fenced block of its own."""
+    if not names:
+        return block(path, read(path).rstrip("\n").splitlines())
+    lines = []
+    for name in names:
+        lines += ([""] if lines else []) + block(path, piece(path, name))
+    return lines

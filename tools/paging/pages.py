@@ -57,7 +57,7 @@ class Maker:
             return code.cut(path, names)
         if what == "lines":
             path, first, last = words.split(" | ")
-            return ["```" + code.language(path), *code.between(path, first, last), "```"]
+            return code.block(path, code.between(path, first, last))
         if what == "output":
             path, _, name = words.partition(" ")
             return ["```", *section(path, name.replace("-", " ")).splitlines(), "```"]
