@@ -14,7 +14,7 @@ import time
 
 from proving import ROOT, TOP
 
-FILES = ["machine", "calls", "judging", "op_codes", "layouts", "records", "splitting", "reading", "collecting", "listing", "host"]
+FILES = ["machine", "calls", "judging", "op_codes", "layouts", "records", "splitting", "reading", "collecting", "listing", "host", "reference"]
 
 
 class Twin:
