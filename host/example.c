@@ -76,9 +76,9 @@ int main(void)
             fprintf(stderr, "refused: %u\n", (unsigned)refusal);
             return 1;
         }
-        printf("part %u of %u:", (unsigned)(i + 1), (unsigned)parts);
+        printf("part %u of %u:", (unsigned)i, (unsigned)parts);
         for (j = 0; j < length; j++) {
-            printf(" %02x", (unsigned)part[j]);
+            printf(" %02X", (unsigned)part[j]);
         }
         printf("\n");
         capture_length = captured(capture, capture_length, part, length);

@@ -7,7 +7,7 @@
  *
  * What a host must not do: hand in a null pointer, even with a length of 0 (point to any octet of
  * yours); let two of the areas and numbers handed in overlap, but for areas that are only read;
- * hand in the same number for `length` and `parts`; change what is handed in before the call
+ * hand in the same pointer for `length` and `parts`; change what is handed in before the call
  * returns; or give a length above what stands behind its pointer. The library cannot see these, and
  * promises nothing after them. Everything else may be handed in: any octets, any kind, any payload,
  * any part, any length.
@@ -23,8 +23,8 @@ extern "C" {
 #endif
 
 /*
- * What a call returns: 0, or the number of the first refusal that applies. On a refusal nothing
- * behind any pointer is written.
+ * What hordivasz_split and hordivasz_list return: 0, or the number of the first refusal that
+ * applies. On a refusal nothing behind any pointer is written.
  */
 #define HORDIVASZ_DONE 0u
 #define HORDIVASZ_UNKNOWN_KIND 11u          /* kind not 1 to 6 */
@@ -60,8 +60,9 @@ extern "C" {
  * out            where the part goes; octets past it stay as they are
  * out_length     how many octets `out` has: as many as this part has are enough, and `payload`
  *                always is
- * length         how many octets the part has
- * parts          how many parts the record has at this payload
+ * length         how many octets the part has: written where 0 is returned, never read
+ * parts          how many parts the record has at this payload: written where 0 is returned, never
+ *                read
  *
  * Returns 0, or 11, 12, 30, 31, 32, 13, 15 or 14, judged in this order.
  */
@@ -72,21 +73,24 @@ uint32_t hordivasz_split(uint32_t kind, const uint8_t *record, size_t record_len
 /*
  * Lists a capture: a kind octet, then for each notification its length, two octets with the least
  * first, and its octets. Parts are joined to records. The listing is lines of ASCII text
- * `name=number`, each with a line feed at its end, and no octet 0 behind them; what is wrong with a
+ * `name=number`, each with a line feed at its end, and no octet 0 after them; what is wrong with a
  * capture or a notification stands in it as a line `refused=` with the refusal's number.
  *
  * capture         the capture
  * capture_length  how many octets it has
  * out             where the listing goes; octets past it stay as they are
  * out_length      how many octets `out` has
- * length          how many octets the listing has
+ * length          how many octets the listing has: written where 0 is returned, never read
  *
  * Returns 0, or 14.
  */
 uint32_t hordivasz_list(const uint8_t *capture, size_t capture_length, uint8_t *out,
                         size_t out_length, size_t *length);
 
-/* How many octets the listing of a capture has: what to lend to hordivasz_list. */
+/*
+ * How many octets the listing of a capture has: what to lend to hordivasz_list. It may be 0; point
+ * to an octet of yours all the same.
+ */
 size_t hordivasz_list_length(const uint8_t *capture, size_t capture_length);
 
 #ifdef __cplusplus

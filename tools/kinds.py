@@ -35,8 +35,8 @@ def unit(kind, name):
 def flags(kind):
     """"Bit 0 is More Data: the main group is present exactly when it is 0."; "Kind 2 has direction in bit 15 (0 forward, 1 backward). All other bits are
     reserved: written 0, ignored when read." """
-    rows = [("0", "More Data: the main group is present exactly when it is 0")]
-    rows += [(bit, group_name(bit, group) + " present") for bit, group in enumerate(KINDS[kind]) if bit]
+    rows = [("0", "More Data: the main group is present exactly when this bit is 0")]
+    rows += [(bit, "1: " + group_name(bit, group) + " present") for bit, group in enumerate(KINDS[kind]) if bit]
     if kind == 2:
         rows.append(("15", "direction: 0 forward, 1 backward"))
     first, last = len(rows), 8 * flags_length(kind) - 1
@@ -52,7 +52,7 @@ def fields(kind):
             rows.append(("bit %d is %d" % (bit, bit > 0), group_name(bit, group), name, width, at, unit(kind, name)))
             at += OCTETS[width]
     measured = any(row[-1] for row in rows)
-    columns = ["present when", "group", "field", "width", "octet"] + ["unit"] * measured
+    columns = ["present when", "group", "field", "width", "first octet"] + ["unit"] * measured
     print("\n## Fields\n")
     print("| " + " | ".join(columns) + " |\n" + "|---" * len(columns) + "|")
     for row in rows:
@@ -87,7 +87,7 @@ def parts(kind, payload):
         shown = [flag_octets(kind, bits, direction) for direction in directions]
         rows.append((number, *shown, length_of(kind, bits), groups_of(bits)))
     columns = ["flags, forward", "flags, backward"] if kind == 2 else ["flags"]
-    table(["part"] + columns + ["octets", "groups"], rows)
+    table(["part"] + columns + ["length", "groups"], rows)
 
 
 def cut(kind, payload):
@@ -95,9 +95,10 @@ def cut(kind, payload):
     print("\n## The cut at payload %d\n" % payload)
     left, rows = [bit for bit in range(1, len(KINDS[kind]))], []
     for number, bits in enumerate(part_sets(kind, all_groups(kind), payload)):
-        rows.append((groups_of(left), length_of(kind, [0] + left), "part %d" % number))
+        whole = length_of(kind, [0] + left)
+        rows.append((groups_of(left), whole, "yes" if whole <= payload else "no", "part %d" % number, groups_of(bits), length_of(kind, bits)))
         left = [bit for bit in left if bit not in bits]
-    table(["remaining groups", "flags, main and these", "sent"], rows)
+    table(["remaining groups", "flags, main and these", "fits", "sent", "its groups", "its length"], rows)
 
 
 def splitting():

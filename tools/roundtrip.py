@@ -34,8 +34,8 @@ RECORDS = {
 # The parts that are lost, each by its record and its number; and what a collection answers to the others, worked out by hand: an open one takes part 1 of
 # record 1 for record 2's, as none of record 2's groups is held; a fixed one drops it, as part 0 is not above it, and then misses part 1 of record 2.
 LOST = [(1, 0), (1, 2), (2, 1)]
-WHOLE = ["waiting", "waiting", "record with average_speed=3 power=3 speed=3"]
-OPEN = ["waiting", "waiting", "record with average_speed=2 power=1 speed=2"] + WHOLE
+WHOLE = ["waiting", "waiting", "record with distance=3 power=3 speed=3"]
+OPEN = ["waiting", "waiting", "record with distance=2 power=1 speed=2"] + WHOLE
 FIXED = ["waiting", "waiting, held groups dropped", "refused 34, held groups dropped"] + WHOLE
 
 
@@ -64,7 +64,7 @@ def answered(answer, dropped):
     else:
         groups, _ = answer
         values = {name: x for bit in groups for (name, _), x in zip(KINDS[CROSS_TRAINER][bit], groups[bit])}
-        said = "record with average_speed={average_speed} power={power} speed={speed}".format(**values)
+        said = "record with distance={distance} power={power} speed={speed}".format(**values)
     return said + (", held groups dropped" if dropped else "")
 
 

@@ -58,7 +58,8 @@ ORDERS = [
     ("reading a notification", [11, 30, 31, 32]),
     ("reading a Feature value", [22]),
     ("opening a collection", [11, 35]),
-    ("collecting a notification", [30, 31, 32, 33, 34]),
+    # "a notification 30 to 34 upward"; before that, as everywhere, the kind: a collection whose opening was refused may have one that is none
+    ("collecting a notification", [11, 30, 31, 32, 33, 34]),
     ("opening a machine", [22, 16]),
     # "connect, disconnect and indications 10, 17"
     ("connect", [10, 17]),
@@ -84,9 +85,9 @@ LEAVES = {
     "splitting called from C": "the lent octets and numbers as they were",
     "reading a notification": "the lent numbers as they were",
     "reading a Feature value": "nothing: it keeps nothing",
-    "opening a collection": "no collection",
-    "collecting a notification": "nothing held",
-    "opening a machine": "no machine",
+    "opening a collection": "a collection that holds nothing, not to be used",
+    "collecting a notification": "11: the collection as it was; 30 to 34: nothing held",
+    "opening a machine": "a console with no target setting and every range 0, not to be used",
     "connect": CONSOLE, "disconnect": CONSOLE, "indications": CONSOLE, "write": CONSOLE, "confirm": CONSOLE,
     "listing a capture": "the lent octets as they were",
     "a line of a listing": "36, 11 and 37: the listing at its end; 30 to 32: nothing held, and the listing goes on",
@@ -182,8 +183,8 @@ SUCCESSES = [
 
 # Source document 000, table 4.15; the zones, tables 4.17 to 4.19; 11, table 4.20
 UNITS = """02 speed, kilometers per hour, 0.01; 03 inclination, percent, 0.1; 04 resistance, none, 0.1; 05 power, watts, 1;
-06 heart rate, beats per minute, 1; 09 energy, calories, 1; 0A steps, steps, 1; 0B strides, strides, 1; 0C distance, meters, 1; 0D time, seconds, 1;
-0E/0F/10 each zone, seconds, 1; 11 wind, meters per second, 0.001; 11 grade, percent, 0.01; 11 rolling, none, 0.0001; 11 drag, kilograms per meter, 0.01;
+06 heart rate, beats per minute, 1; 09 energy, Calories, 1; 0A steps, steps, 1; 0B strides, strides, 1; 0C distance, meters, 1; 0D time, seconds, 1;
+0E/0F/10 each zone, seconds, ; 11 wind, meters per second, 0.001; 11 grade, percent, 0.01; 11 rolling, none, 0.0001; 11 drag, kilograms per meter, 0.01;
 12 wheel, millimeters, 0.1; 14 cadence, 1/minute, 0.5"""
 
 WIDTHS = {0x02: "u16", 0x03: "s16", 0x04: "s16", 0x05: "s16", 0x06: "u8"}

@@ -116,12 +116,12 @@ fn print_units() {
     print(b"| 04 | resistance | none | 0.1 |\n");
     print(b"| 05 | power | watts | 1 |\n");
     print(b"| 06 | heart rate | beats per minute | 1 |\n");
-    print(b"| 09 | energy | calories | 1 |\n");
+    print(b"| 09 | energy | Calories | 1 |\n");
     print(b"| 0A | steps | steps | 1 |\n");
     print(b"| 0B | strides | strides | 1 |\n");
     print(b"| 0C | distance | meters | 1 |\n");
     print(b"| 0D | time | seconds | 1 |\n");
-    print(b"| 0E, 0F, 10 | each zone | seconds | 1 |\n");
+    print(b"| 0E, 0F, 10 | each zone | seconds | |\n");
     print(b"| 11 | wind | meters per second | 0.001 |\n");
     print(b"| 11 | grade | percent | 0.01 |\n");
     print(b"| 11 | rolling | none | 0.0001 |\n");

@@ -114,10 +114,10 @@ fn print_part(kind: u8, payload: usize, part: u8) {
 fn print_columns(kind: u8) {
     if kind == CROSS_TRAINER {
         print(
-            b"| part | flags, forward | flags, backward | octets | groups |\n|---|---|---|---|---|\n",
+            b"| part | flags, forward | flags, backward | length | groups |\n|---|---|---|---|---|\n",
         );
     } else {
-        print(b"| part | flags | octets | groups |\n|---|---|---|---|\n");
+        print(b"| part | flags | length | groups |\n|---|---|---|---|\n");
     }
 }
 
@@ -131,15 +131,27 @@ pub(crate) fn print_parts(kind: u8, payload: usize) {
     }
 }
 
-// The line of a step of splitting: what remains, how long it would be in one part, and the part that is sent.
-fn print_try(kind: u8, left: u32, part: u8) {
+// The first cells of a step of splitting: what remains, how long it would be in one part, and whether that fits.
+fn print_try(kind: u8, payload: usize, left: u32) {
     let mut space = [0u8; GREATEST_PAYLOAD];
     let out: &mut [u8] = &mut space;
     let whole = split_off(kind, left, FORWARD, GREATEST_PAYLOAD, 0, out);
     print(b"|");
     print_bits(left);
     print_number(b" | ", whole as u64);
-    print_number(b" | part ", part as u64);
+    if whole <= payload {
+        print(b" | yes");
+    } else {
+        print(b" | no");
+    }
+}
+
+// The other cells: the part that is sent, its groups and its length.
+fn print_sent(number: u8, part: Part, length: usize) {
+    print_number(b" | part ", number as u64);
+    print(b" |");
+    print_groups(part);
+    print_number(b" | ", length as u64);
     print(b" |\n");
 }
 
@@ -150,7 +162,8 @@ fn print_step(kind: u8, payload: usize, part: u8, left: u32) -> u32 {
     let length = split_all(kind, FORWARD, payload, part, out);
     match part_of(kind, first(out, length)) {
         PartAnswer::Part(said) => {
-            print_try(kind, left, part);
+            print_try(kind, payload, left);
+            print_sent(part, said, length);
             left ^ said.groups
         }
         PartAnswer::Refused(_) => left,
@@ -160,7 +173,9 @@ fn print_step(kind: u8, payload: usize, part: u8, left: u32) -> u32 {
 // The steps by which a record with all groups of the kind is split at a payload.
 pub(crate) fn print_cut(kind: u8, payload: usize) {
     print_number(b"\n## The cut at payload ", payload as u64);
-    print(b"\n\n| remaining groups | flags, main and these | sent |\n|---|---|---|\n");
+    print(
+        b"\n\n| remaining groups | flags, main and these | fits | sent | its groups | its length |\n|---|---|---|---|---|---|\n",
+    );
     let mut left = listed(kind);
     for part in 0..MOST_PARTS as u8 {
         left = print_step(kind, payload, part, left);

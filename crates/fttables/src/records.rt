@@ -102,14 +102,15 @@ pub(crate) fn opening_collection(step: u8) -> u8 {
     refusal.number()
 }
 
-// Collects a notification of cadence, with its length put right first, and then the told set: another group, one group too many, cadence.
+// Collects a notification of cadence, with the kind put right, its length, and then the told set: another group, one group too many, cadence.
 pub(crate) fn collecting(step: u8) -> u8 {
-    let complete = mended(step, 5, AVERAGE_SPEED + CADENCE, CADENCE);
-    let told = mended(step, 4, AVERAGE_SPEED, complete) as u32;
-    let collection = open(INDOOR_BIKE, Told::Fixed(told)).collection;
+    let kind = mended(step, 1, 0, INDOOR_BIKE);
+    let complete = mended(step, 6, AVERAGE_SPEED + CADENCE, CADENCE);
+    let told = mended(step, 5, AVERAGE_SPEED, complete) as u32;
+    let collection = open(kind, Told::Fixed(told)).collection;
     let mut octets = [0u8; NOTIFICATION];
     octets[0] = CADENCE;
-    let answer = collect(collection, first(&octets, length_at(step, 1) as usize)).answer;
+    let answer = collect(collection, first(&octets, length_at(step, 2) as usize)).answer;
     let Collected::Refused {
         refusal,
         dropped: _,

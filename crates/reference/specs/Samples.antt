@@ -47,9 +47,9 @@ units = (refl, refl, refl, refl, refl, refl)
 
 -- the flags behind More Data: each group's bit once, under the group's name; then what is reserved, and the direction of kind 2
 pub flag-samples :
-    (bit-lines 3 ≡ ascii "| 1 | step_rate present |\n| 2 | average_step_rate present |\n| 3 | positive_gain present |\n"
-    ++ ascii "| 4 | energy present |\n| 5 | heart_rate present |\n| 6 | metabolic_equivalent present |\n"
-    ++ ascii "| 7 | elapsed present |\n| 8 | remaining present |\n| 9 to 15 | reserved: written 0, ignored when read |\n") ×
+    (bit-lines 3 ≡ ascii "| 1 | 1: step_rate present |\n| 2 | 1: average_step_rate present |\n| 3 | 1: positive_gain present |\n"
+    ++ ascii "| 4 | 1: energy present |\n| 5 | 1: heart_rate present |\n| 6 | 1: metabolic_equivalent present |\n"
+    ++ ascii "| 7 | 1: elapsed present |\n| 8 | 1: remaining present |\n| 9 to 15 | reserved: written 0, ignored when read |\n") ×
     (other-flags 2 14 ≡ ascii "| 15 | direction: 0 forward, 1 backward |\n| 16 to 23 | reserved: written 0, ignored when read |\n")
 unfolding layout tables step-climber has named size names name bare decimal group-word flag-line other-flags bit-lines
 flag-samples = (refl, refl)

@@ -39,8 +39,8 @@ unit-cell kind f = cond (eqb kind 6) (ascii " |\n") (ascii " | " ++ ascii (unit-
 
 unfoldable pub columns : ℕ → List ℕ
 columns kind =
-    cond (eqb kind 6) (ascii "| present when | group | field | width | octet |\n|---|---|---|---|---|\n")
-    (ascii "| present when | group | field | width | octet | unit |\n|---|---|---|---|---|---|\n")
+    cond (eqb kind 6) (ascii "| present when | group | field | width | first octet |\n|---|---|---|---|---|\n")
+    (ascii "| present when | group | field | width | first octet | unit |\n|---|---|---|---|---|---|\n")
 
 -- "Bit 0 is More Data: the main group is present exactly when it is 0."; the others are "the groups named by its bits"
 abbrev pub present-word : ℕ → String
@@ -83,7 +83,7 @@ last-bit b (r ∷ rows) = last-bit (r .0) rows
 
 -- a group's bit of the flags, once, at the group's first row: the row before has another bit
 unfoldable pub flag-line : ℕ → ℕ → Row → List ℕ
-flag-line kind b r = cond (eqb (r .0) b) [] (ascii "| " ++ decimal (r .0) ++ ascii " | " ++ group-word kind r ++ ascii " present |\n")
+flag-line kind b r = cond (eqb (r .0) b) [] (ascii "| " ++ decimal (r .0) ++ ascii " | 1: " ++ group-word kind r ++ ascii " present |\n")
 
 abbrev pub flag-lines : ℕ → ℕ → List Row → List ℕ
 flag-lines kind b [] = []
@@ -102,7 +102,7 @@ bit-lines kind = flag-lines kind 0 (layout kind) ++ other-flags kind (last-bit 0
 -- every bit of the flags. "Bit 0 is More Data: the main group is present exactly when it is 0."
 unfoldable pub flags-table : ℕ → List ℕ
 flags-table kind =
-    ascii "| bit | what it says |\n|---|---|\n| 0 | More Data: the main group is present exactly when it is 0 |\n" ++ bit-lines kind
+    ascii "| bit | what it says |\n|---|---|\n| 0 | More Data: the main group is present exactly when this bit is 0 |\n" ++ bit-lines kind
 
 -- the kinds' names, by their numbers
 abbrev pub kind-words : List String

@@ -20,7 +20,7 @@ fn put_flag(out: &mut [u8], at: usize, kind: u8, before: u8, row: Row) -> usize
     let number = bit as u32;
     let a = put_bytes(out, at, b"| ");
     let b = put_decimal(out, a, number);
-    let c = put_bytes(out, b, b" | ");
+    let c = put_bytes(out, b, b" | 1: ");
     let d = put_group(out, c, kind, row);
     put_bytes(out, d, b" present |\n")
 }
@@ -68,7 +68,7 @@ pub fn put_flags(out: &mut [u8], at: usize, kind: u8) -> usize
     let next = put_bytes(
         out,
         at,
-        b"| bit | what it says |\n|---|---|\n| 0 | More Data: the main group is present exactly when it is 0 |\n",
+        b"| bit | what it says |\n|---|---|\n| 0 | More Data: the main group is present exactly when this bit is 0 |\n",
     );
     put_bits(out, next, kind)
 }

@@ -31,13 +31,13 @@ fn put_columns(out: &mut [u8], at: usize, kind: u8) -> usize
         return put_bytes(
             out,
             at,
-            b"| present when | group | field | width | octet |\n|---|---|---|---|---|\n",
+            b"| present when | group | field | width | first octet |\n|---|---|---|---|---|\n",
         );
     }
     put_bytes(
         out,
         at,
-        b"| present when | group | field | width | octet | unit |\n|---|---|---|---|---|---|\n",
+        b"| present when | group | field | width | first octet | unit |\n|---|---|---|---|---|---|\n",
     )
 }
 

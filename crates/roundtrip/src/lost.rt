@@ -91,7 +91,7 @@ fn show_answer(answer: Collected) {
             dropped
         }
         Collected::Record { record, dropped } => {
-            print_number(b": record with average_speed=", record.average_speed as u64);
+            print_number(b": record with distance=", record.distance as u64);
             print_signed(b" power=", record.power);
             print_number(b" speed=", record.speed as u64);
             dropped

@@ -106,16 +106,29 @@ fn show_part(part: usize, parts: usize, octets: &[u8]) {
     print(b"\n");
 }
 
-// Splits one part off into the lent octets, and shows it; its length, or 0 where it is refused.
+// Sends one part of a record, which here is to print it; how many parts there are, 0 where it is
+// refused.
 fn send(record: Record, part: usize, out: &mut [u8]) -> usize {
     match split(record, PAYLOAD, part, out) {
         SplitAnswer::Part(extent) => {
             show_part(part, extent.parts, first(out, extent.length));
-            extent.length
+            extent.parts
         }
         SplitAnswer::Refused(refusal) => {
             show_refused(refusal);
             0
+        }
+    }
+}
+
+// Sends a record: its parts from 0 on, as many as the answers say. No record has more than
+// MOST_PARTS.
+fn send_parts(record: Record) {
+    let mut space = [0u8; PAYLOAD];
+    let out: &mut [u8] = &mut space;
+    for part in 0..MOST_PARTS {
+        if send(record, part, out) <= part + 1 {
+            return;
         }
     }
 }
@@ -138,16 +151,21 @@ fn show_answer(answer: Collected) -> bool {
     }
 }
 
+// A part as it is received: its length, or 0 where there is no such part.
+fn receive(record: Record, part: usize, out: &mut [u8]) -> usize {
+    match split(record, PAYLOAD, part, out) {
+        SplitAnswer::Part(extent) => extent.length,
+        SplitAnswer::Refused(_) => 0,
+    }
+}
+
 // Gives the parts of a record to a collection, one after the other, until it waits for no more.
-fn send_parts(record: Record, opened: Collection) {
+fn collect_parts(record: Record, opened: Collection) {
     let mut collection = opened;
     let mut space = [0u8; PAYLOAD];
     let out: &mut [u8] = &mut space;
     for part in 0..MOST_PARTS {
-        let length = send(record, part, out);
-        if length == 0 {
-            return;
-        }
+        let length = receive(record, part, out);
         let step = collect(collection, first(out, length));
         let answer = step.answer;
         if !show_answer(answer) {
@@ -163,7 +181,10 @@ pub(crate) fn split_and_collect(record: Record) {
     let opened = open(record.kind, Told::Open);
     let answer = opened.answer;
     match answer {
-        Opening::Opened => send_parts(record, opened.collection),
+        Opening::Opened => {
+            send_parts(record);
+            collect_parts(record, opened.collection);
+        }
         Opening::Refused(refusal) => show_refused(refusal),
     }
 }

@@ -25,7 +25,7 @@ const FEATURE: Feature = Feature {
         | 1 << Feature::DISTANCE
         | 1 << Feature::INCLINATION
         | 1 << Feature::ELAPSED
-        | 1 << Feature::POWER,
+        | 1 << Feature::BELT_FORCE_AND_POWER_OUTPUT,
     targets: 1 << Feature::TARGET_SPEED
         | 1 << Feature::TARGET_INCLINATION
         | 1 << Feature::TARGET_POWER,

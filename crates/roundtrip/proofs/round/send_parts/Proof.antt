@@ -5,10 +5,10 @@ use Rattle.roundtrip.proofs.round.send_parts.Statement.{statement}
 use Rattle.roundtrip.proofs.round.send_parts.Tie as tie
 
 abbrev Inv-loop : tie.InvT-loop
-Inv-loop «record» collection₀ out₀ part₀ collection out part = Unit {0}
+Inv-loop «record» out₀ part₀ out part = Unit {0}
 
 abbrev μ-loop : tie.MeasureT-loop
-μ-loop «record» collection₀ out₀ part₀ collection out part = 16 - part
+μ-loop «record» out₀ part₀ out part = 16 - part
 
 pub send-parts-spec : {M : Type 1} → statement M
 send-parts-spec =
@@ -20,9 +20,6 @@ send-parts-spec =
     (λ c. search needs)
     (λ c κs. search needs)
     (λ c. search needs)
-    (λ c κs. search needs)
-    (λ c κs. search needs)
-    (λ c κs. search needs)
     (λ c. search needs)
     (λ c. search needs)
     (λ c. search needs)
