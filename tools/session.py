@@ -10,10 +10,12 @@ sys.dont_write_bytecode = True
 
 from conformance import status
 from tables import OP_CODES, RANGES, parameter, target_bit, words
-from vectors import OCTETS, hexed
+from vectors import OCTETS, hexed, spelled
 
 # The target settings of the treadmill: "0 speed, 1 inclination, .. 3 power". Its ranges: "least, greatest, both allowed".
 TARGETS = {0, 1, 3}
+# Its features: "0 average speed, .. 2 distance, 3 inclination, .. 12 elapsed, .. 15 belt force and power output"
+FEATURES = {0, 2, 3, 12, 15}
 ALLOWED = {"speed": (100, 2000), "inclination": (-30, 150), "resistance": (0, 0), "power": (0, 500), "heart rate": (0, 0)}
 
 # The widths of each op code's parameter. Of spin down document 01 says that "its op code is answered 'not supported'".
@@ -143,6 +145,8 @@ class Console:
 
 def main():
     console = Console()
+    # "Feature value, 8 octets, two u32"
+    print("Feature value:" + hexed(b"".join(spelled(sum(1 << bit for bit in bits), 4) for bits in (FEATURES, TARGETS))))
     print("a machine is opened: " + console.state())
     for client, call, *written in STORY:
         octets, worked = written if written else ("", "")

@@ -10,6 +10,7 @@ UNIT = (WIDE - MARGIN - LEFT) / 8
 NUMBERS = 15
 RESERVED = "reserved"
 MORE = "More Data"
+MAIN = "0: main present"
 MOST_LINES = 3
 
 
@@ -22,8 +23,8 @@ def bits_of_row(words):
 
 
 def short_name(words):
-    """The name in what a bit says: the words before the first colon, or before ` present`."""
-    found = re.match(r"([^:]+?)(:| present$)", words)
+    """The name in what a bit says: that of a group which is present where the bit is 1, or the words before the colon."""
+    found = re.fullmatch(r"1: (.+) present", words) or re.match(r"([^:]+):", words)
     if not found:
         raise ValueError("`%s` does not begin with a name" % words)
     return found.group(1)
@@ -74,7 +75,7 @@ class Strip:
         self.names = names
         self.edges = edges
         self.y = y
-        lines = [len(lines_of(name, self.room([bit]), name == MORE)) for bit, name in enumerate(names)]
+        lines = [MOST_LINES if name == MORE else len(lines_of(name, self.room([bit]))) for bit, name in enumerate(names)]
         # Low where all of it is reserved, else high enough for its longest name.
         self.high = NUMBERS + (LINE + 4 if set(names) == {RESERVED} else LINE * max([2] + lines) + 5)
 
@@ -106,10 +107,13 @@ def draw_run_name(picture, strip, run):
     """The name, in the longer part where the line between the two digits divides a run."""
     name = strip.names[run[0]]
     parts = [[bit for bit in run if bit >= 4], [bit for bit in run if bit < 4]]
-    longer = run if len(parts[0]) == len(parts[1]) else max(parts, key=len)
+    longer = max(parts, key=len)
     middle = sum(strip.sides(longer)) / 2
-    lines = lines_of(name, strip.room(longer), bold=name == MORE)
-    draw_centred(picture, middle, strip.y + NUMBERS, strip.high - NUMBERS, lines, bold=name == MORE, plate=name == RESERVED)
+    if name == MORE:
+        picture.text(middle, strip.y + NUMBERS + 11, MORE, bold=True)
+        picture.block(middle, strip.y + NUMBERS + 11 + LINE, lines_of(MAIN, strip.room(longer) - 4))
+        return
+    draw_centred(picture, middle, strip.y + NUMBERS, strip.high - NUMBERS, lines_of(name, strip.room(longer)), plate=name == RESERVED)
 
 
 def draw_strip(picture, strip, label, first):
@@ -139,8 +143,8 @@ def flags_picture(title, rows, flags_octets):
         add_name(names, bits_of_row(cell(row, "bit")), short_name(cell(row, "what it says")))
     if None in names:
         raise ValueError("bit %d of the flags has no row" % names.index(None))
-    if names[0] != MORE:
-        raise ValueError("bit 0 of the flags is %s and not %s" % (names[0], MORE))
+    if not rows[0].get("what it says", "").startswith(MORE + ": the main group is present exactly when this bit is 0"):
+        raise ValueError("bit 0 of the flags does not say that it is %s" % MORE)
     return octets_picture(title, names, 0, shown=False)
 
 

@@ -28,6 +28,11 @@ def sent_of(line):
     return Sent(*found.groups())
 
 
+def mixed(answer):
+    """Whether a record has values of two records: in record n every value is n."""
+    return answer.startswith("record with") and len(set(re.findall(r"=(-?\d+)", answer))) > 1
+
+
 def answer_lines(answer, wide):
     """An answer's words in lines; each field of a record begins its own."""
     whole = answer[:-len(DROPPED)] if answer.endswith(DROPPED) else answer
@@ -35,7 +40,7 @@ def answer_lines(answer, wide):
         raise ValueError("`%s` is no answer that is known" % answer)
     if not whole.startswith("record with"):
         return lines_of(answer, wide)
-    words = ["record with"] + whole.split()[2:]
+    words = ["a mixture:" if mixed(whole) else "record with"] + whole.split()[2:]
     words[-1] += answer[len(whole):]
     return [line for word in words for line in lines_of(word, wide)]
 

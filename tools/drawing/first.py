@@ -16,7 +16,7 @@ def number_of(octets, width):
 def words_of_flags(flags, groups):
     """What the flags say: the bits that are 1, and More Data."""
     named = [str(group.bit) for group in groups if group.bit and flags >> group.bit & 1]
-    return ["bits %s are 1:" % " and ".join(named), "these groups are present", "bit 0, More Data, is 0:", "so is the main group"]
+    return ["%04X in hex: bits %s" % (flags, " and ".join(named)), "are 1, their groups present;", "bit 0, More Data, is 0:", "the main group is present"]
 
 
 def draw_octets(picture, octets, y, unit):
@@ -57,41 +57,43 @@ def first_picture(title, rows, octets, flags_octets):
     return picture.svg(y + OCTET + BOX + 60)
 
 
-# The boxes of the way: where each stands, how wide it is, and its words; and the arrows between them, with the calls that they are.
+# The boxes of the way: where each stands, how wide and how high it is, and its words; and the arrows between them, each with its word and how far it is
+# aside from the middle.
 SIDES = [("console", 10, 288), ("app", 382, 288)]
 BOXES = {
-    "sent": (22, 34, 84, ["record"]), "parts": (204, 34, 84, ["parts"]), "heard": (394, 34, 92, ["notifications"]), "record": (574, 34, 84, ["record"]),
-    "machine": (22, 92, 84, ["machine's", "state"]), "point": (184, 92, 104, ["control point"]), "client": (394, 92, 92, ["client"]),
-    "capture": (394, 150, 92, ["capture"]), "lines": (574, 150, 84, ["lines of text"]),
+    "sent": (22, 34, 84, 36, ["record"]), "parts": (204, 34, 84, 36, ["parts"]), "heard": (394, 34, 92, 36, ["notifications"]),
+    "record": (574, 34, 84, 36, ["record"]), "machine": (22, 86, 84, 66, ["machine's", "state"]), "point": (184, 86, 104, 66, ["control point"]),
+    "client": (394, 86, 92, 66, ["client"]), "capture": (394, 168, 92, 36, ["capture"]), "lines": (574, 168, 84, 36, ["lines of text"]),
 }
-ARROWS = [("sent", "parts", "split", 0), ("parts", "heard", "", 0), ("heard", "record", "collect", 0), ("client", "point", "write", -9), ("point", "client", "response", 9),
-          ("machine", "point", "", -9), ("point", "machine", "", 9), ("capture", "lines", "list", 0)]
-HIGH = 40
+ARROWS = [("sent", "parts", "split", 0), ("parts", "heard", "", 0), ("heard", "record", "collect", 0), ("client", "point", "write", -18),
+          ("point", "client", "response", -3), ("client", "point", "confirm", 12), ("point", "client", "status", 27), ("machine", "point", "", -9),
+          ("point", "machine", "", 9), ("capture", "lines", "list", 0)]
+FOOT = 210
 
 
 def draw_arrow(picture, start, end, words, aside):
     """An arrow from a box to another in the same row, with its word above it."""
-    (x1, y1, wide1, _), (x2, _, wide2, _) = BOXES[start], BOXES[end]
+    (x1, y1, wide1, high, _), (x2, _, wide2, _, _) = BOXES[start], BOXES[end]
     along = 1 if x2 > x1 else -1
     near, far = (x1 + wide1, x2) if along == 1 else (x1, x2 + wide2)
-    y = picture.top + y1 + HIGH / 2 + aside
+    y = picture.top + y1 + high / 2 + aside
     picture.line(near, y, far - 4 * along, y)
     picture.head(far, y, along, 0)
     if words:
-        picture.text((near + far) / 2, y - 4 if aside <= 0 else y + 11, words, bold=True, plate=True)
+        picture.text((near + far) / 2, y - 3, words, bold=True, plate=True)
 
 
 def way_picture(title):
     """The way of a record from the console to the app, and of a write back, with the calls of this book."""
     picture = Picture(title)
     for name, x, wide in SIDES:
-        picture.dashed_box(x, picture.top + 4, wide, 196)
+        picture.dashed_box(x, picture.top + 4, wide, FOOT)
         picture.text(x + 8, picture.top + 20, name, "start", bold=True)
-    picture.hatch(306, picture.top + 4, 68, 196)
+    picture.hatch(306, picture.top + 4, 68, FOOT)
     picture.text(340, picture.top + 20, "radio", bold=True, plate=True)
-    for x, y, wide, words in BOXES.values():
-        picture.box(x, picture.top + y, wide, HIGH, "#ffffff", thick=1.5)
-        draw_centred(picture, x + wide / 2, picture.top + y, HIGH, words)
+    for x, y, wide, high, words in BOXES.values():
+        picture.box(x, picture.top + y, wide, high, "#ffffff", thick=1.5)
+        draw_centred(picture, x + wide / 2, picture.top + y, high, words)
     for arrow in ARROWS:
         draw_arrow(picture, *arrow)
-    return picture.svg(picture.top + 206)
+    return picture.svg(picture.top + FOOT + 10)

@@ -30,8 +30,7 @@ def width_of_row(row):
 def label_of(group, wide):
     """What stands above a group: its bit, and its name where that says more than its field's; just the bit where that has no room."""
     if group.bit == 0:
-        whole = "%s: bit 0 is 0" % group.name
-        return whole if text_width(whole, bold=True) <= wide else group.name
+        return "%s: bit 0=0" % group.name
     bit = "bit %d" % group.bit
     if [field.name for field in group.fields] == [group.name]:
         return bit

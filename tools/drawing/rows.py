@@ -62,7 +62,7 @@ def groups_of(rows, flags_octets):
         bit, name, width = presence(cell(row, "present when")), cell(row, "group"), cell(row, "width")
         if width not in OCTETS:
             raise ValueError("field %s has width `%s`, which is not known" % (cell(row, "field"), width))
-        field = Field(cell(row, "field"), width, OCTETS[width], whole_number(cell(row, "octet"), "the octet of " + cell(row, "field")))
+        field = Field(cell(row, "field"), width, OCTETS[width], whole_number(cell(row, "first octet"), "the octet of " + cell(row, "field")))
         if field.at != at:
             raise ValueError("field %s is at octet %d, where octet %d comes next" % (field.name, field.at, at))
         at += field.octets
@@ -121,7 +121,7 @@ def parts_of(rows, groups, payload, flags_octets):
         part = Part(
             whole_number(cell(row, "part"), "a part's number"),
             flags_of(cell(row, "flags"), flags_octets),
-            whole_number(cell(row, "octets"), "a part's octets"),
+            whole_number(cell(row, "length"), "a part's length"),
             named_groups(cell(row, "groups"), groups),
         )
         if part.number != len(parts):

@@ -3,7 +3,7 @@ from .names import draw_centred, draw_hanging, draw_strokes, name_lines
 from .rows import groups_of, parts_of
 from .svg import FLAGS, INNER, MARGIN, TINTS, Picture, text_width
 
-HEADING = 15
+HEADING = 14
 
 
 def bit_words(group, wide):
@@ -34,8 +34,8 @@ def draw_group(picture, group, x, y, unit, high, names):
     draw_octets(picture, group, x, y + high, unit)
     lines = name_lines(words_of(group), wide, 2) if names else None
     if lines:
-        picture.text(x + wide / 2, y + 12, bit_words(group, wide), bold=True, room=wide)
-        draw_centred(picture, x + wide / 2, y + 14, high - 21, lines)
+        picture.text(x + wide / 2, y + 11, bit_words(group, wide), bold=True, room=wide)
+        draw_centred(picture, x + wide / 2, y + 14, high - 19, lines)
         return []
     draw_centred(picture, x + wide / 2, y, high - 4, [bit_words(group, wide)], bold=True, room=wide)
     return [(x + wide / 2, words_of(group))] if names else []
@@ -69,15 +69,15 @@ def last_alone_is_last(parts):
         raise ValueError("More Data is not 0 in the last part alone")
 
 
-def parts_picture(title, parts, fields, payload, flags_octets, names=True, shown=False):
-    """The parts of a record, each a strip of the payload's octets; without `names` the groups bear their bits alone."""
+def parts_picture(title, parts, fields, payload, flags_octets, names=True, shown=False, aside=""):
+    """The parts of a record, each a strip of the payload's octets; without `names` the groups bear their bits alone. `aside` ends each heading."""
     picture = Picture(title, shown)
     read = parts_of(parts, groups_of(fields, flags_octets), payload, flags_octets)
     last_alone_is_last(read)
-    unit, high, y = INNER / payload, 46 if names else 28, picture.top
+    unit, high, y = INNER / payload, 44 if names else 28, picture.top
     for part in read:
-        heading = "part %d of %d: %d octets, More Data %d" % (part.number, len(read), part.octets, part.more)
-        picture.text(MARGIN, y + 12, heading, "start")
+        heading = "part %d of %d: %d octets, More Data %d" % (part.number, len(read), part.octets, part.more) + aside
+        picture.text(MARGIN, y + 11, heading, "start")
         y += HEADING
         picture.dashed_box(MARGIN, y, INNER, high)
         hanging = draw_strip(picture, part.flags, part.groups, y, unit, high, names)

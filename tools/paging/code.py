@@ -41,13 +41,13 @@ def piece(path, name):
 
 
 def between(path, first, last):
-    """The lines from the first that begins with some words to the next that begins with others."""
+    """The lines from the first that begins with some words to the next that begins with others; that one alone, where there are no others."""
     lines = read(path).splitlines()
     starts = [i for i, line in enumerate(lines) if line.startswith(first)]
     if not starts:
         raise Fault(f"{path}: no line begins with {first}")
     start = starts[0] - (lines[starts[0] - 1] == "/*")
-    for end in range(start + 1, len(lines)):
+    for end in range(start + 1, len(lines)) if last else [start]:
         if lines[end].startswith(last):
             return lines[start:end + 1]
     raise Fault(f"{path}: no line after {first} begins with {last}")

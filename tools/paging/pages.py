@@ -80,7 +80,7 @@ class Maker:
         """The line under a page's title."""
         if index:
             return f"*Edition {self.edition}*"
-        return f"*Edition {self.edition} · [departures](../DEPARTURES.md) · [statements](../PROOFS.md) · [contents](README.md)*"
+        return f"*Edition {self.edition} · [departures](departures.md) · [statements](../PROOFS.md) · [contents](README.md)*"
 
     def page(self, name):
         """A page's text. Under its title stands its edition; under each table stands which of the three it is."""
@@ -98,7 +98,8 @@ def damaged():
 
     lines = ["| octets | what they are | what is listed |", "|---|---|---|"]
     for words, octets, listed in DAMAGED:
-        lines.append(f"| {octets} | {words} | {' '.join(f'`{line}`' for line in listed)} |")
+        kept = octets.replace(" ", "\u00a0")  # on one line
+        lines.append(f"| {kept} | {words} | {' '.join(f'`{line}`' for line in listed)} |")
     return lines
 
 

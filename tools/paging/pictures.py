@@ -40,7 +40,8 @@ class Pictures:
     def cut_parts(self, kind, payload, table):
         title = f"The record of {article(kind)} with all groups, at payload {payload}"
         fields = self.rows(kind + "/fields")
-        return title, drawing.parts_picture(title, self.part_rows(table), fields, int(payload), FLAGS.get(kind, 2), int(payload) <= 20, int(payload) > 20)
+        return title, drawing.parts_picture(title, self.part_rows(table), fields, int(payload), FLAGS.get(kind, 2), int(payload) <= 20, int(payload) > 20,
+                                           ", forward" if kind in FLAGS else "")
 
     def parts(self, kind):
         return self.cut_parts(kind, "20", kind + "/parts-at-payload-20")
@@ -78,7 +79,10 @@ class Pictures:
 
     def session(self):
         title = "A session of two clients"
-        return title, drawing.sequence_pictures(title, section("crates/session/stdout", "").splitlines(), 900)
+        lines = section("crates/session/stdout", "").splitlines()
+        if not lines[0].startswith("Feature value:"):
+            raise Fault("session does not begin with the Feature value")
+        return title, drawing.sequence_pictures(title, lines[1:], 900)
 
     def name(self, what, arguments):
         """`treadmill-flags` of a kind, `lost-open` of others."""

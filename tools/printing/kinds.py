@@ -72,7 +72,7 @@ def laid_out(sections):
     pair = tables[:2] if len(tables) > 2 else []
     for section in sections:
         if pair and section is pair[0]:
-            made.extend(above_table(section))
+            made.extend(with_note_beside(above_table(section)))
         elif pair and section is pair[1]:
             made.append(side_by_side(pair[0], section))
             made.extend(below_table(section))
@@ -86,8 +86,9 @@ def first_table(section):
 
 
 def above_table(section):
-    """What a section has above its table: its heading and its picture."""
-    return section[:first_table(section)]
+    """What a section has above its table, its heading and its picture, and its note."""
+    place = first_table(section)
+    return section[:place] + [child for child in section[place:] if is_note([child])]
 
 
 def below_table(section):
@@ -103,9 +104,8 @@ def with_note_beside(section):
 
 
 def side_by_side(narrow, wide):
-    """The table of one section, its note below, beside the table of the other with its heading and note above."""
-    place = first_table(narrow)
-    first = element("div", None, narrow[place:], class_="narrow")
+    """The table of one section beside the table of the other, which has its heading and note above."""
+    first = element("div", None, [narrow[first_table(narrow)]], class_="narrow")
     second = element("div", None, with_note_beside(wide[:first_table(wide) + 1] + [child for child in wide if is_note([child])]), class_="wide")
     return element("div", None, [first, second], class_="pair")
 

@@ -120,9 +120,9 @@ def print_as_text(link, target, root):
     """Makes a link a piece of text that names the file, where it does not yet."""
     link.tag = "span"
     link.attrib.clear()
-    if target.name not in text_of(link) and root in target.parents:
-        path = element("span", f" ({target.relative_to(root).as_posix()})", class_="path")
-        link.append(path)
+    name = target.relative_to(root).as_posix() if root in target.parents else ""
+    if name not in text_of(link):
+        link.append(element("span", f" ({name})", class_="path"))
 
 
 def keep_together(tree):

@@ -105,7 +105,7 @@ def write_index(site):
     printed = pages.element("p", "For printing: ", [pages.element("a", "the whole book as a PDF for A4", href="book.pdf")])
     printed[0].tail = "."
     tree.append(printed)
-    site.write("index.html", pages.title_of(tree, "The reference"), tree, pages.reference(site.root), "")
+    site.write("index.html", pages.title_of(tree, "The reference"), tree, pages.reference(site.root), '<a href="book.pdf">PDF</a>')
 
 
 def navigation(before, behind):
@@ -146,9 +146,17 @@ def listing(folder, name):
     return pages.element("div", None, [pages.element("h1", name), pages.element("ul", None, links)])
 
 
+def lines_of(source):
+    """The lines of a file; of one that is no text its octets in hex, sixteen to a line."""
+    octets = source.read_bytes()
+    if b"\0" in octets:
+        return [octets[at:at + 16].hex(" ").upper() for at in range(0, len(octets), 16)]
+    return octets.decode("utf-8", errors="replace").splitlines()
+
+
 def text(source, name):
     """A page with the lines of a file, each with its number as anchor."""
     code = pages.element("code")
-    for number, line in enumerate(source.read_text(encoding="utf-8", errors="replace").splitlines(), 1):
+    for number, line in enumerate(lines_of(source), 1):
         code.append(pages.element("span", line + "\n", id=f"L{number}"))
     return pages.element("div", None, [pages.element("h1", name), pages.element("pre", None, [code])])

@@ -11,6 +11,7 @@ use crate::show::turn_indications_on;
 use crate::show::write;
 use output::print;
 use output::print_number;
+use output::print_octets;
 use record::feature::Feature;
 use service::control::Console;
 use service::control::Outcome;
@@ -133,6 +134,9 @@ fn hand_over(driven: Console) -> Console {
 
 fn main() {
     let octets = FEATURE.to_octets();
+    print(b"Feature value:");
+    print_octets(&octets);
+    print(b"\n");
     let reply = Console::open(&octets, RANGES);
     let outcome = reply.outcome;
     match outcome {
