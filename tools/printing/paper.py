@@ -139,7 +139,7 @@ def keep_together(tree):
     if len(tree) > 1 and kinds.is_note([tree[1]]):
         tree[1].set("class", "leads")
     for child, behind in zip(list(tree), list(tree)[1:]):
-        if child.tag == "p" and child.get("class") is None and behind.tag in ("table", "pre"):
+        if child.tag == "p" and child.get("class") is None and (behind.tag in ("table", "pre") or behind.get("class") == "picture"):
             child.set("class", "leads")
         elif child.tag == "table" and kinds.is_note([behind]):
             behind.set("class", "note")
