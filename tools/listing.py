@@ -117,7 +117,7 @@ def damaged():
 
 def main():
     assert listing(SAMPLE) == SAMPLE_LINES
-    octets = damaged() if "--damaged" in sys.argv[1:] else capture()
+    octets = {"--damaged": damaged, "--sample": lambda: SAMPLE}.get("".join(sys.argv[1:2]), capture)()
     if "--capture" in sys.argv[1:]:
         sys.stdout.buffer.write(octets)
     else:
