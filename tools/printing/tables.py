@@ -1,12 +1,16 @@
 """Makes a table's repeated cells one: where rows follow each other that share their first cells, such a cell stands once, as high as its rows.
 
-In a table of fields (its first columns are "present when" or "bit", then "group") the first two columns are merged. In other tables only cells of words are:
-numbers in rows that follow each other may be equal by chance."""
+In a table of fields (its first columns are "present when" or "bit", then "group") the first two columns are merged, in one of parameters the op codes. In other
+tables only cells of words are: numbers in rows that follow each other may be equal by chance. A last column of which calls give a refusal, or of what it leaves,
+is merged too."""
 import re
 from itertools import takewhile
 
-# The first columns that are merged in a table of fields, whatever stands in them.
-FIELD_COLUMNS = [["present when", "group"], ["bit", "group"]]
+# How many first columns are merged in a table that begins with these, whatever stands in them.
+FIRST_COLUMNS = {("present when", "group"): 2, ("bit", "group"): 2, ("op code", "parameter"): 1}
+
+# The last columns that are merged.
+LAST_COLUMNS = ("by", "what a refusal leaves")
 
 # What makes a cell one of words: a hex number has no three small letters in a row.
 WORD = re.compile("[a-z]{3}")
@@ -23,10 +27,12 @@ def merge_cells(tree):
         head = [text_of(cell) for cell in table.iter("th")]
         rows = [list(row) for row in table.findall("tbody/tr")]
         if rows and all(len(row) == len(head) for row in rows):
-            columns = 2 if head[:2] in FIELD_COLUMNS else len(head) - 1
-            repeated = repeats(rows, columns, head[:2] in FIELD_COLUMNS)
+            first = FIRST_COLUMNS.get(tuple(head[:2]))
+            repeated = repeats(rows, first or len(head) - 1, first is not None)
             mark_groups(table, repeated)
             remove(table, rows, repeated)
+            if head[-1] in LAST_COLUMNS:
+                merge_last(table, rows)
 
 
 def repeats(rows, columns, any_text):
@@ -56,6 +62,17 @@ def remove(table, rows, repeated):
     for row, (element, count) in enumerate(zip(table.findall("tbody/tr"), repeated)):
         element[:] = rows[row][count:]
         raise_cells(rows[row][count:], count, repeated[row + 1:])
+
+
+def merge_last(table, rows):
+    """Makes the last cells of rows that follow each other one, where they say the same."""
+    high = None
+    for element, above, row in zip(table.findall("tbody/tr"), [None] + rows, rows):
+        if above is not None and same(above[-1], row[-1], False):
+            high.set("rowspan", str(int(high.get("rowspan", "1")) + 1))
+            element.remove(row[-1])
+        else:
+            high = row[-1]
 
 
 def raise_cells(cells, first, repeated_below):
