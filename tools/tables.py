@@ -146,7 +146,7 @@ def op_code(op, name):
 
 def op_codes():
     rows = [("%02X" % op, bare(name)) + op_code(op, name) for op, name in enumerate(words(OP_CODES, ";"))]
-    table(["op code", "name", "parameter", "octets", "range", "target bit", "status where it succeeds"], rows)
+    table(["op code", "name", "parameter", "octets", "range", "target bit it needs", "status where it succeeds"], rows)
 
 
 def calls_that_give(number):

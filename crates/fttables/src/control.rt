@@ -155,7 +155,7 @@ fn put_op_codes(out: &mut [u8], at: usize) -> usize {
     let mut next = put_bytes(
         out,
         at,
-        b"\n## Op codes\n\n| op code | name | parameter | octets | range | target bit | status where it succeeds |\n|---|---|---|---|---|---|---|\n",
+        b"\n## Op codes\n\n| op code | name | parameter | octets | range | target bit it needs | status where it succeeds |\n|---|---|---|---|---|---|---|\n",
     );
     for op in 0..OP_CODES {
         next = put_op_code(out, next, op);
