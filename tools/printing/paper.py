@@ -132,6 +132,8 @@ def keep_together(tree):
             child.set("class", "whole")
         elif child.tag == "pre" and len("".join(child.itertext()).splitlines()) * CODE_LINE <= HALF_PAGE:
             child.set("class", "whole")
+        elif child.tag == "pre":
+            break_at_blank_lines(child)
         elif child.tag == "p" and child.find("img") is not None:
             child.set("class", "picture")
         elif child.tag == "p" and text_of(child).endswith(":"):
@@ -143,6 +145,13 @@ def keep_together(tree):
             child.set("class", "leads")
         elif child.tag == "table" and kinds.is_note([behind]):
             behind.set("class", "note")
+
+
+def break_at_blank_lines(block):
+    """Makes pieces of a long block of code that do not break: each ends with a blank line."""
+    pieces = re.findall(r".+?(?:\n\n|\Z)", "".join(block.itertext()), re.DOTALL)
+    block[:] = [element("code", None, [element("span", piece, class_="piece") for piece in pieces])]
+    block.text = None
 
 
 def table_height(table):
