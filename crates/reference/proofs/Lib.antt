@@ -1,3 +1,5 @@
 mod Bits
+mod Capitals
+mod Lengths
 pub mod Lines
 pub mod Once

@@ -5,6 +5,7 @@ use Rattle.text.proofs.Once.{wrote-once}
 use Rattle.reference.proofs.words.put_width.Reads as put-width
 use Rattle.reference.proofs.words.put_group.Reads as put-group
 use Rattle.reference.proofs.flags.put_flags.Reads as put-flags
+use Rattle.reference.proofs.header.put_macros.Reads as put-macros
 use Rattle.reference.proofs.tables.put_kind.Reads as put-kind
 use Rattle.reference.proofs.tables.put_table.Reads as put-table
 use Rattle.reference.proofs.tables.put_page.Reads as put-page
@@ -22,8 +23,10 @@ words-once = (
 pub tables-once :
     (Once put-flags.Post × LeftOnce put-flags.Post (λ κs s. now (s .0))) ×
     (Once put-table.Post × LeftOnce put-table.Post (λ κs s. now (s .0))) ×
-    (Once put-page.Post × LeftOnce put-page.Post (λ κs s. now (s .0)))
+    (Once put-page.Post × LeftOnce put-page.Post (λ κs s. now (s .0))) ×
+    (Once put-macros.Post × LeftOnce put-macros.Post (λ κs s. now (s .0)))
 tables-once = (
+  (λ κs a x y s t p q. wrote-once _ _ _ _ _ _ _ p q .0, λ κs a x y s t p q. wrote-once _ _ _ _ _ _ _ p q .1),
   (λ κs a x y s t p q. wrote-once _ _ _ _ _ _ _ p q .0, λ κs a x y s t p q. wrote-once _ _ _ _ _ _ _ p q .1),
   (λ κs a x y s t p q. wrote-once _ _ _ _ _ _ _ p q .0, λ κs a x y s t p q. wrote-once _ _ _ _ _ _ _ p q .1),
   (λ κs a x y s t p q. wrote-once _ _ _ _ _ _ _ p q .0, λ κs a x y s t p q. wrote-once _ _ _ _ _ _ _ p q .1),

@@ -1,2 +1,3 @@
 pub mod Tables
+pub mod Header
 pub mod Samples

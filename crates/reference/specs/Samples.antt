@@ -1,13 +1,15 @@
--- Lines of the tables, by computation: document 01's order, widths and units, and the lengths of its own numbers.
+-- Lines of the tables and macros, by computation: document 01's order, widths and units, and the lengths of its own numbers.
+use Prim.Native.Nat.{_+_, _-_}
 use mathlib.Core.Path.{_≡_, refl}
 use mathlib.Core.List.{_++_, map}
 use lib.ListN.{getD}
 use Rattle.record.specs.declared.layout.Row.{Row}
-use Rattle.record.specs.Layout.{layout, no-row, tables, treadmill, cross-trainer, step-climber, indoor-bike}
+use Rattle.record.specs.Layout.{layout, no-row, tables, treadmill, cross-trainer, step-climber, stair-climber, rower, indoor-bike}
 use Rattle.record.specs.Groups.{has, named, size, groups-of, listed}
 use Rattle.text.specs.Names.{names, name, bare}
-use Rattle.text.specs.Text.{ascii, decimal}
-use Rattle.reference.specs.Tables.{group-word, unit-word, unit-cell, flag-line, other-flags, bit-lines, row-names, row-place, row-line, kind-word, title, sizes}
+use Rattle.text.specs.Text.{ascii, decimal, hex}
+use Rattle.reference.specs.Header.{capitals, prefix, mask-line, octets-line, row-macros, number-macro, first-macros, direction-macro, all-macro, macros}
+use Rattle.reference.specs.Tables.{group-word, unit-word, unit-cell, flag-line, other-flags, bit-lines, row-names, row-place, row-line, kind-word, title, whole-length, sizes}
 
 -- "Slope is inclination s16, in tenths of a percent, then ramp angle s16, in tenths of a degree." "Gain is positive u16, then negative u16."
 pub treadmill-lines :
@@ -31,7 +33,7 @@ pub all-groups :
     (sizes 6 ≡ ascii "Flags: 2 octets. With all groups present: 30 octets.\n\n") ×
     (sizes 2 ≡ ascii "Flags: 3 octets. With all groups present: 41 octets.\n\n") ×
     (title 2 ≡ ascii "# Kind 2: cross trainer\n\n")
-unfolding layout tables cross-trainer indoor-bike has named size groups-of listed decimal kind-word title sizes
+unfolding layout tables cross-trainer indoor-bike has named size groups-of listed decimal kind-word title whole-length sizes
 all-groups = (refl, refl, refl)
 
 -- the units: of every kind but the indoor bike, as document 01 and source document 000 give them; a bike's table has no column of units
@@ -53,3 +55,30 @@ pub flag-samples :
     (other-flags 2 14 ≡ ascii "| 15 | direction: 0 forward, 1 backward |\n| 16 to 23 | reserved: written 0, ignored when read |\n")
 unfolding layout tables step-climber has named size names name bare decimal group-word flag-line other-flags bit-lines
 flag-samples = (refl, refl)
+
+-- the macros of a step climber, whole: "floors u16, steps u16 | step rate u16; average step rate u16; positive gain u16; E; H; M; T; R"
+pub macro-samples :
+    (macros 3 ≡ ascii "#define HORDIVASZ_STEP_CLIMBER 3u\n#define HORDIVASZ_STEP_CLIMBER_FLAGS_OCTETS 2u\n"
+    ++ ascii "#define HORDIVASZ_STEP_CLIMBER_FLOORS_OCTETS 2u /* u16 */\n#define HORDIVASZ_STEP_CLIMBER_STEPS_OCTETS 2u /* u16 */\n"
+    ++ ascii "#define HORDIVASZ_STEP_CLIMBER_STEP_RATE_MASK (1u << 1)\n#define HORDIVASZ_STEP_CLIMBER_STEP_RATE_OCTETS 2u /* u16 */\n"
+    ++ ascii "#define HORDIVASZ_STEP_CLIMBER_AVERAGE_STEP_RATE_MASK (1u << 2)\n#define HORDIVASZ_STEP_CLIMBER_AVERAGE_STEP_RATE_OCTETS 2u /* u16 */\n"
+    ++ ascii "#define HORDIVASZ_STEP_CLIMBER_POSITIVE_GAIN_MASK (1u << 3)\n#define HORDIVASZ_STEP_CLIMBER_POSITIVE_GAIN_OCTETS 2u /* u16 */\n"
+    ++ ascii "#define HORDIVASZ_STEP_CLIMBER_ENERGY_MASK (1u << 4)\n#define HORDIVASZ_STEP_CLIMBER_TOTAL_ENERGY_OCTETS 2u /* u16 */\n"
+    ++ ascii "#define HORDIVASZ_STEP_CLIMBER_ENERGY_PER_HOUR_OCTETS 2u /* u16 */\n#define HORDIVASZ_STEP_CLIMBER_ENERGY_PER_MINUTE_OCTETS 1u /* u8 */\n"
+    ++ ascii "#define HORDIVASZ_STEP_CLIMBER_HEART_RATE_MASK (1u << 5)\n#define HORDIVASZ_STEP_CLIMBER_HEART_RATE_OCTETS 1u /* u8 */\n"
+    ++ ascii "#define HORDIVASZ_STEP_CLIMBER_METABOLIC_EQUIVALENT_MASK (1u << 6)\n#define HORDIVASZ_STEP_CLIMBER_METABOLIC_EQUIVALENT_OCTETS 1u /* u8 */\n"
+    ++ ascii "#define HORDIVASZ_STEP_CLIMBER_ELAPSED_MASK (1u << 7)\n#define HORDIVASZ_STEP_CLIMBER_ELAPSED_OCTETS 2u /* u16 */\n"
+    ++ ascii "#define HORDIVASZ_STEP_CLIMBER_REMAINING_MASK (1u << 8)\n#define HORDIVASZ_STEP_CLIMBER_REMAINING_OCTETS 2u /* u16 */\n"
+    ++ ascii "#define HORDIVASZ_STEP_CLIMBER_ALL_GROUPS 0x01FEu\n#define HORDIVASZ_STEP_CLIMBER_LONGEST 23u\n") ×
+    (direction-macro 2 ≡ ascii "#define HORDIVASZ_CROSS_TRAINER_BACKWARD_MASK (1u << 15)\n")
+unfolding layout tables step-climber has named size groups-of listed names name bare decimal hex group-word kind-word whole-length capitals prefix mask-line octets-line row-macros number-macro first-macros direction-macro all-macro macros
+macro-samples = (refl, refl)
+
+-- document 01's flags of all groups at payload 30 and more, FE 1F of the indoor bike, and the length of each kind's notification with all groups, by its part lengths: parts of one record
+-- less the flags of all parts but one
+pub whole-samples :
+    (all-macro 6 ≡ ascii "#define HORDIVASZ_INDOOR_BIKE_ALL_GROUPS 0x1FFEu\n") ×
+    (whole-length 1 ≡ 17 + 19 - 2) × (whole-length 2 ≡ 18 + 20 + 9 - 6) × (whole-length 3 ≡ 19 + 6 - 2) × (whole-length 4 ≡ 19 + 6 - 2) ×
+    (whole-length 5 ≡ 16 + 16 - 2) × (whole-length 6 ≡ 30)
+unfolding layout tables treadmill cross-trainer step-climber stair-climber rower indoor-bike has named size groups-of listed hex kind-word whole-length capitals prefix all-macro
+whole-samples = (refl, refl, refl, refl, refl, refl, refl)

@@ -85,9 +85,10 @@ last-bit b (r ∷ rows) = last-bit (r .0) rows
 unfoldable pub flag-line : ℕ → ℕ → Row → List ℕ
 flag-line kind b r = cond (eqb (r .0) b) [] (ascii "| " ++ decimal (r .0) ++ ascii " | 1: " ++ group-word kind r ++ ascii " present |\n")
 
-abbrev pub flag-lines : ℕ → ℕ → List Row → List ℕ
-flag-lines kind b [] = []
-flag-lines kind b (r ∷ rows) = flag-line kind b r ++ flag-lines kind (r .0) rows
+-- the lines of rows, each by the bit of the row before it and by the row itself
+abbrev pub by-bit : (ℕ → Row → List ℕ) → ℕ → List Row → List ℕ
+by-bit line b [] = []
+by-bit line b (r ∷ rows) = line b r ++ by-bit line (r .0) rows
 
 -- "Kind 2 has direction in bit 15 (0 forward, 1 backward). All other bits are reserved: written 0, ignored when read."
 unfoldable pub other-flags : ℕ → ℕ → List ℕ
@@ -97,7 +98,7 @@ other-flags kind b =
 
 -- the bits behind More Data
 unfoldable pub bit-lines : ℕ → List ℕ
-bit-lines kind = flag-lines kind 0 (layout kind) ++ other-flags kind (last-bit 0 (layout kind))
+bit-lines kind = by-bit (flag-line kind) 0 (layout kind) ++ other-flags kind (last-bit 0 (layout kind))
 
 -- every bit of the flags. "Bit 0 is More Data: the main group is present exactly when it is 0."
 unfoldable pub flags-table : ℕ → List ℕ
@@ -114,11 +115,14 @@ kind-word kind = getD kind-words kind ""
 unfoldable pub title : ℕ → List ℕ
 title kind = ascii "# Kind " ++ decimal kind ++ ascii ": " ++ ascii (kind-word kind) ++ ascii "\n\n"
 
+-- the octets of a notification with all groups: the flags, the main group and every optional one
+unfoldable pub whole-length : ℕ → ℕ
+whole-length kind = flags-octets kind + set-length kind (listed kind + 1)
+
 -- the octets of the flags, and of a notification with all groups
 unfoldable pub sizes : ℕ → List ℕ
 sizes kind =
-    ascii "Flags: " ++ decimal (flags-octets kind) ++ ascii " octets. With all groups present: "
-    ++ decimal (flags-octets kind + set-length kind (listed kind + 1)) ++ ascii " octets.\n\n"
+    ascii "Flags: " ++ decimal (flags-octets kind) ++ ascii " octets. With all groups present: " ++ decimal (whole-length kind) ++ ascii " octets.\n\n"
 
 unfoldable pub page : ℕ → List ℕ
 page kind =

@@ -20,8 +20,9 @@ use record::layout::width_length;
 use text::names::put_field;
 use text::text::put_bytes;
 use text::text::put_decimal;
+ghost use mathlib.Core.Path.{_≡_};
 ghost use Rattle.text.specs.Text.{Wrote, ascii};
-ghost use Rattle.reference.specs.Tables.{row-names, row-place, row-line, table, columns, kind-word, title, sizes, page};
+ghost use Rattle.reference.specs.Tables.{row-names, row-place, row-line, table, columns, kind-word, title, whole-length, sizes, page};
 
 // The columns' names: the indoor bike's table has no units.
 fn put_columns(out: &mut [u8], at: usize, kind: u8) -> usize
@@ -119,12 +120,19 @@ fn put_title(out: &mut [u8], at: usize, kind: u8) -> usize
     put_bytes(out, d, b"\n\n")
 }
 
+// The octets of a notification with all groups.
+pub(crate) fn whole_length(kind: u8) -> usize
+    ensures { λ r. ⌜ r ≡ whole-length kind ⌝ }
+{
+    flags_length(kind) + groups_length(kind, listed(kind) + 1)
+}
+
 // The octets of the flags, and of a notification with all groups.
 fn put_sizes(out: &mut [u8], at: usize, kind: u8) -> usize
     ensures { λ r. ⌜ Wrote (now (out .entry)) at (sizes kind) (now (out .exit)) r ⌝ }
 {
     let flags = flags_length(kind);
-    let all = flags + groups_length(kind, listed(kind) + 1);
+    let all = whole_length(kind);
     let a = put_bytes(out, at, b"Flags: ");
     let b = put_decimal(out, a, flags as u32);
     let c = put_bytes(out, b, b" octets. With all groups present: ");

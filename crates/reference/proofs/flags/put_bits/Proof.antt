@@ -6,16 +6,16 @@ use native.Mathlib.Omega.{arith}
 use borrow.Author.Needs.{needs}
 use lib.ListN.{length, take}
 use Rattle.record.specs.Layout.{layout, no-row}
-use Rattle.reference.specs.Tables.{last-bit, flag-lines, bit-lines}
-use Rattle.reference.proofs.Bits.{next-flag, next-bit, all-bits}
+use Rattle.reference.specs.Tables.{last-bit, flag-line, by-bit, bit-lines}
+use Rattle.reference.proofs.Bits.{next-row, next-bit, all-rows, all-bits}
 use Rattle.text.specs.Text.{Wrote}
-use Rattle.text.proofs.Writing.{nothing}
+use Rattle.text.proofs.Writing.{then, nothing}
 use Rattle.reference.proofs.flags.put_bits.Statement.{statement}
 use Rattle.reference.proofs.flags.put_bits.Tie as tie
 
 abbrev Inv-loop : tie.InvT-loop
 Inv-loop out₀ at kind n next₀ before₀ i₀ out next before i =
-    (n ≡ length (layout kind)) × Wrote out₀ at (flag-lines kind 0 (take i (layout kind))) out next × (i ≤ n) × (length out ≡ length out₀) ×
+    (n ≡ length (layout kind)) × Wrote out₀ at (by-bit (flag-line kind) 0 (take i (layout kind))) out next × (i ≤ n) × (length out ≡ length out₀) ×
     (before ≡ last-bit 0 (take i (layout kind)))
 
 abbrev μ-loop : tie.MeasureT-loop
@@ -31,7 +31,7 @@ loop-again c =
     let l = g .before .before in
     let s = l .before .before .before .args in (
       l .loop .inv .0,
-      next-flag (s .kind) 0 (layout (s .kind)) (l .loop .i) (l .loop .before) no-row (g .row-of .result) (g .row-of .ensures) (omega arith)
+      next-row (flag-line (s .kind)) 0 (layout (s .kind)) (l .loop .i) (l .loop .before) no-row (g .row-of .result) (g .row-of .ensures) (omega arith)
           (l .loop .inv .4) (l .loop .inv .1) (r .put-flag .ensures),
       omega arith,
       omega (arith, r .put-flag .kept .0),
@@ -44,7 +44,8 @@ returns c =
     let d = c .before .before in
     let l = d .before .before .before in
     let s = l .before .before .before .args in
-    all-bits (s .kind) 0 (layout (s .kind)) (l .loop .i) (l .loop .before) (omega arith) (l .loop .inv .4) (l .loop .inv .1) (d .put-others .ensures)
+    let e = all-bits 0 (layout (s .kind)) (l .loop .i) (l .loop .before) (omega arith) (l .loop .inv .4) in
+    rw (← e) (then (all-rows (flag-line (s .kind)) 0 (layout (s .kind)) (l .loop .i) (omega arith) (l .loop .inv .1)) (d .put-others .ensures))
 
 pub put-bits-spec : {M : Type 1} → statement M
 put-bits-spec =
