@@ -1,4 +1,4 @@
--- What the loops over rows and numbers find, turn by turn, and the five tests of a record.
+-- What the loops over rows and numbers find, step by step, and the five tests of a record.
 use Prim.Native.Nat.{ℕ, _+_, _<_, _≤_}
 use mathlib.Core.Path.{_≡_, refl, sym, ap, _∙_}
 use mathlib.Core.Bool.{Bool, true, false, cond, _&&_, and-true}
