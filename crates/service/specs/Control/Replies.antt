@@ -10,8 +10,7 @@ use Rattle.service.specs.declared.control.Outcome.the-variants as outcom
 use Rattle.service.specs.declared.control.Reply.{Reply}
 use Rattle.service.specs.Control.Counted.{boxed, counted}
 
--- what a call sends: response octets and status octets, empty if there are
--- none
+-- what a call sends: response octets and status octets, either may be empty
 pub record Sent : Type 0 where
   pub response : List ℕ
   pub status : List ℕ
