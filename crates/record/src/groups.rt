@@ -1,5 +1,4 @@
-// Sets of groups, as bit masks: a kind's groups, the length of each, and the length of a set. Bit 0 stands for the main
-// group.
+// Sets of groups, as bit masks: a kind's groups, the length of each, and the length of a set. Bit 0 stands for the main group.
 use crate::layout::CROSS_TRAINER;
 use crate::layout::INDOOR_BIKE;
 use crate::layout::ROWER;
