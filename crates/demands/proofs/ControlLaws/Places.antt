@@ -1,4 +1,4 @@
--- A setting that is stored is read again as it was written, and no other setting changes by it.
+-- A setting that is stored is read back as it was written, and changes no other setting.
 use Prim.Native.Nat.{ℕ, zero, suc, _+_, _-_, _≤_}
 use mathlib.Core.Path.{_≡_, refl, sym, ap, _∙_}
 use mathlib.Core.Logic.{_⊎_, inl, inr}

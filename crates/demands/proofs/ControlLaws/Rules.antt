@@ -1,4 +1,4 @@
--- The table of op codes says what document 01's sentences say, of every octet.
+-- The table of op codes says what document 01's sentences say, for every octet.
 use Prim.Native.Nat.{ℕ, zero, suc, _+_, _≤_, _<_}
 use mathlib.Core.Path.{_≡_, refl, sym, ap, _∙_}
 use mathlib.Core.Bool.{Bool, true, false, cond, not, _&&_, _||_}
@@ -91,7 +91,7 @@ module _ (m : Machine) (c : ℕ) where
   unfolding op-code
   holder-so p = every (λ o. success m c (op-code o) p .holder) (λ o. rule.holder o c (m .holder)) refl
 
-  -- of a parameter that 08 may have
+  -- for the parameters that 08 may have
   pub stop-so : (o : ℕ) → o ≤ 255 → success m c (op-code o) (1 ∷ []) .mode ≡ rule.mode o 1 (m .mode)
   unfolding op-code number
   stop-so = every (λ o. success m c (op-code o) (1 ∷ []) .mode) (λ o. rule.mode o 1 (m .mode)) refl
@@ -195,7 +195,7 @@ module _ (m : Machine) (c : ℕ) (p : List ℕ) where
   numbered true true true false = refl
   numbered true true true true = refl
 
-  -- "A write is judged in this order": the result's number, of every machine, client, octet and parameter
+  -- "A write is judged in this order": the result, for every machine, client, octet and parameter
   pub result-so : (o : ℕ) → o ≤ 255 → result-number (result m c o p) ≡ rule.result (m .setup) (m .holder) (m .mode) c o p
   result-so o h =
       let s : supported-by (m .setup .feature) (op-code o) ≡ rule.supported (m .setup .feature .targets) o = supported-so (m .setup .feature) o h in

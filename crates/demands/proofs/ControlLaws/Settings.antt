@@ -44,7 +44,7 @@ next o e before = cond (succeeded 0x01 e) (zero-setting (op-code o)) (cond (succ
 module _ (m : Machine) (w : length (m .settings) ≡ 49) (c i : ℕ) (y : OpCode) (e : op-code i ≡ Known y) (p : List ℕ)
     (n : length p ≡ size (y .parameter)) where
   module _ (o : ℕ) (t : stores (op-code o) ≡ true) where
-    -- an op code that stores nothing is not the one whose setting it is
+    -- an op code that stores nothing is not the op code of this setting
     elsewhere : keeps (y .act) ≡ false → eqb i o ≡ false
     elsewhere f = eqb-false (λ (q : i ≡ o). true≢false (sym t ∙ ap (λ (j : ℕ). stores (op-code j)) (sym q) ∙ rw e f))
 
