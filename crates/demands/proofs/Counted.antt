@@ -79,7 +79,7 @@ pub data Since (l m : ℕ) (S : List ℕ) (h : ℕ) (z : List ℕ) : Type 0 wher
   nothing : h ≡ 0 → z ≡ zeros → Since l m S h z
   some : 2 ≤ length S → (n : ℕ) → n + m ≡ l → Under h n S → Since l m S h z
 
--- ---- what is said of one record
+-- ---- the answers to the parts of one record
 pub record Ending (r : Sent) (full : Type 0) (bs : List Bool) (said : List Said) : Type 0 where
   pub before : List Said
   pub final : Said

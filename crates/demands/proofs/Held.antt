@@ -50,7 +50,7 @@ record-cuts r payload low =
     (cuts (r .kind) room (the-sound (r .kind) (r .groups) (r .direction) (r .numbers) (r .formed)) (omega arith) 16 1 (r .groups / 2) (omega arith) (omega arith)
     (omega arith))
 
--- ---- what is held, where the groups still to come are q * 2 ^ b
+-- ---- what is held, when the groups still to come are q * 2 ^ b
 
 pub record Held (r : Sent) (b q h : ℕ) (z : List ℕ) : Type 0 where
   pub least : 1 ≤ b

@@ -12,7 +12,7 @@ use Rattle.record.specs.Layout.{layout, no-row}
 use Rattle.record.specs.Groups.{has, named, listed, known, within}
 use Rattle.record.specs.Record.{all-fit, others, all-zero, formed}
 
--- ---- a turn of a loop: what is left from here is one row or number, and what is left from the next
+-- ---- a step of a loop: what is left from here is one row or number, and what is left from the next
 
 module _ (set : ℕ) (rows : List Row) (i : ℕ) (r : Row) (e : r ≡ getD rows i no-row) (h : i < length rows) (v : List ℕ) where
   left : drop i rows ≡ r ∷ drop (i + 1) rows

@@ -89,7 +89,7 @@ fn chosen(parts: usize, part: usize, next: u32, set: u32) -> u32
     set
 }
 
-// The groups of a part of a record, and the number of parts, if each part has `room` octets after its flags.
+// The groups of a part of a record, and the number of parts, with at most `room` octets after the flags of each.
 fn cut_at(kind: u8, groups: u32, room: usize, part: usize) -> Cut
     requires { ⌜ groups < 4294967295 ⌝ }
     ensures { λ r. ⌜ (r .set ≡ getD (cut kind room groups 16) part 0) × (r .parts ≡ length (cut kind room groups 16)) ⌝ }

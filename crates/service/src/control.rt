@@ -51,7 +51,7 @@ pub enum Outcome {
     Refused(Refusal),
 }
 
-// The reply to a call: the outcome, the response octets and the status octets, both empty if there are none, and the console after it.
+// The reply to a call: the outcome, the response octets, the status octets (either may be empty), and the console after it.
 pub struct Reply {
     pub outcome: Outcome,
     pub response: Counted,

@@ -211,7 +211,7 @@ never-refuted h =
 abbrev pub retold : (Call → Console → Answer Sent → Answer Sent) → Point Console
 retold f = record { opening = opened; calling = λ k q. (f q k (step k q .0), step k q .1) }
 
--- of a write only
+-- alters the answers to writes only
 abbrev of-write : (ℕ → List ℕ → Console → Answer Sent → Answer Sent) → Call → Console → Answer Sent → Answer Sent
 of-write f (connect c) before a = a
 of-write f (disconnect c) before a = a

@@ -18,7 +18,7 @@ use Rattle.service.specs.Control.Calls.{Opening, opened, connects, indicates, w
 use Rattle.demands.specs.Control.Point.{Call, connect, disconnect, confirm, indicate, write, Point, service, Event, event, latest, step, run, Answers}
 use Rattle.demands.specs.Control.Laws.{result-in}
 
--- ---- how to show it of code: its states are read as consoles, and each call moves the console that its state is read as
+-- ---- how to show it for code: its states are read as consoles, and each call changes the console that its state is read as
 
 abbrev pub read-opening : {S : Type 0} → (S → Console) → Answer S → Answer Console
 read-opening f (refused n) = refused n

@@ -39,7 +39,7 @@ use Rattle.demands.proofs.ControlLaws.Numbers.{not-01}
 use Rattle.demands.proofs.ControlLaws.Steps.{Stepped, refusal, connected, gone, indicated, confirmed, denied, granted, steps}
 use Rattle.demands.proofs.ControlLaws.Kept.{here, sound-step, all-absent, sound-first, opened-first}
 
--- ---- what each event makes of it, all events make of it
+-- ---- what holds for each event holds for all events
 
 module _ {A : Type 0} (read : Console → A) (says : List Event → A) (next : Event → A → A)
     (one : (k : Console) (q : Call) → Sound k → read (step k q .1) ≡ next (event q (step k q .0)) (read k))

@@ -46,7 +46,7 @@ module _ {A : Type 0} (f g : ℕ → A) where
       let n : getD octets o 0 ≡ o = counting-at 0 256 o 0 (omega arith) ∙ omega arith in
       ap f (sym n) ∙ on-list octets e o 0 (omega arith) ∙ ap g n
 
--- ---- each sentence, of whatever the table says of an octet
+-- ---- each sentence, for what the table says about an octet
 
 abbrev supported-by : Feature → Lookup → Bool
 supported-by f (Known x) = supports f (x .need)
@@ -114,7 +114,7 @@ pub storing-so : (o : ℕ) → o ≤ 255 → stores (op-code o) ≡ rule.storing
 unfolding op-code
 storing-so = every (λ o. stores (op-code o)) rule.storing refl
 
--- ---- the places of the settings: no two overlap, and together they are the room
+-- ---- the places of the settings: no two overlap, and together they are all 49 octets
 pub apart-so : all (λ a. all (rule.apart a) (picked rule.storing octets)) (picked rule.storing octets) ≡ true
 apart-so = refl
 

@@ -96,7 +96,7 @@ setting-by-history o k e qs i t =
 pub settings-remembered : SettingByHistory service
 settings-remembered i t o k e qs = setting-by-history o k e qs i t
 
--- ---- a write of an op code that stores succeeds for the holder alone
+-- ---- a write of an op code that stores succeeds only for the holder
 pub granted-to-holder : (k : Console) (c o : ℕ) (p : List ℕ) → stores (op-code o) ≡ true → result-in (writes k c (o ∷ p) .0) ≡ result-number Success →
     k .machine .holder ≡ Client c
 granted-to-holder k c o p t h = from (steps k (write c (o ∷ p))) h

@@ -20,7 +20,7 @@ use Rattle.service.specs.Control.Calls.{Opening}
 use Rattle.demands.specs.Control.Point.{Call, connect, disconnect, confirm, indicate, write, Point, Event, run}
 use Rattle.demands.specs.Control.Laws.{stores, by, parameter, result-in, succeeded, holder-by, setting-by}
 
--- a call that was not refused, and one that this client made
+-- a call that was not refused, and such a call by this client
 abbrev pub accepted : Event → Bool
 accepted e = eqb (refusal-of (e .answer)) 0
 

@@ -78,7 +78,7 @@ granted-so m c x p e = from (judged-so m c x p) e
     from (against f) e = absurd (true≢false (sym e ∙ f))
     from (for g) e = g
 
--- ---- what a write gives, by what the table says of its op code and by its result
+-- ---- what a write gives, by what the table says about its op code and by its result
 
 success-of : (r : WriteResult) → succeeds r ≡ true → r ≡ Success
 success-of Success e = refl

@@ -38,7 +38,7 @@ module _ (f : ℕ → OpCode → Bool) where
   unfolding op-code
   table-rule h o x e = rule-in table h o x e
 
--- ---- an op code that is none of a table's, as the last arm of a `match` knows it: each of the others was tried before
+-- ---- an op code that is not in a table, as the last arm of a `match` knows it: each of the others was tried before
 
 abbrev pub NoneOf : Type 0 → List Line → ℕ → Type 0
 NoneOf T [] o = T

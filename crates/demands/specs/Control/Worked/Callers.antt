@@ -1,4 +1,4 @@
--- Each call by each client: the holder, the one whose response awaits, another that is connected, one that is not, and one above 3. "connect,
+-- Each call by each client: the holder, the one whose response is awaited, another that is connected, one that is not, and one above 3. "connect,
 -- disconnect and indications 10, 17; confirm 10, 17, 21"; "A write is judged in this order: 10, 17, 18, 19, 20"; "10 to 22 leave the state unchanged."
 use Prim.Native.Nat.{ℕ}
 use mathlib.Core.Bool.{true, false}
