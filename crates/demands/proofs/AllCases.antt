@@ -38,7 +38,7 @@ module _ (r : Record) (w : well-formed r ≡ true) (p : ℕ) (k : payload-known 
       answered r w p k i (length out) h l
       ∙ ap (λ (n : ℕ). given (record { length = n; parts = length sets })) (octets-length (r .kind) (getD sets i 0) (r .direction) (wire r))
 
-  -- there is no part behind the last
+  -- there is no part after the last
   no-more : split-of r p (length sets) (length out) ≡ refused 15
   unfolding split-wire extent-of
   no-more =
@@ -55,7 +55,7 @@ module _ (r : Record) (w : well-formed r ≡ true) (p : ℕ) (k : payload-known 
       ap (λ (a : Answer Extent). take n (after a (over out (part-octets r p i)) out)) (answered r w p k i (length out) h l)
       ∙ ap (take n) (append-assoc head body rest) ∙ take-at head (body ++ rest) n (length-spelled n (flags (getD sets i 0) (r .direction)))
 
--- a row of the table, by the sets of the parts: they are computed once
+-- a row of the table, from the sets of the parts, computed once
 row : (kind groups p direction : ℕ) (sets lengths : List ℕ) (flags-octets-of : List (List ℕ)) → listed kind ≡ groups → payload-known p ≡ true → sets-of kind groups p ≡ sets →
     length sets ≡ length lengths → map (λ s. flags-octets kind + set-length kind s) sets ≡ lengths →
     map (λ s. spelled (flags-octets kind) (flags s direction)) sets ≡ flags-octets-of →

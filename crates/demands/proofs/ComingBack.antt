@@ -33,13 +33,13 @@ tail-same : (a b : Said) (l k : List Said) → a ∷ l ≡ b ∷ k → l ≡ k
 tail-same a b l k e = cc
 
 module _ (r : Record) (payload : ℕ) where
-  -- what is said to part i and to those behind it: waiting some times, then the record
+  -- the answers to part i and to those after it: waiting some times, then the record
   pub record Left (i : ℕ) (c : Collection) : Type 0 where
     pub below : i < count r payload
     pub times : ℕ
     pub said : says collector c (each i (count r payload - i) (part-octets r payload)) ≡ replicate times (waiting false) ++ (handed r false ∷ [])
 
-  -- at first
+  -- before the first part
   pub left-all : Good r → payload-known payload ≡ true → (told : Told) → Suits (r .groups) told → Left 0 (empty (r .kind) told)
   left-all w p told suits =
       let s : Sent = sent r w in
@@ -56,7 +56,7 @@ module _ (r : Record) (payload : ℕ) where
             ap (λ (k : ℕ). says collector (empty (r .kind) told) (each 0 k (part-octets r payload))) n ∙ ap (says collector (empty (r .kind) told)) e ∙ y .1;
       }
 
-  -- what one part more gives
+  -- what handing over one more part gives
   pub data Next (i : ℕ) (x : Stepped) : Type 0 where
     comes-home : x .said ≡ handed r false → Next i x
     waits-on : x .said ≡ waiting false → Left (i + 1) (x .next) → Next i x
@@ -67,7 +67,7 @@ module _ (r : Record) (payload : ℕ) where
   unfolding says each
   first-said i c h = let n : count r payload - i ≡ suc (count r payload - suc i) = omega arith in rw n
 
-  -- something is said, so there is a part
+  -- there is an answer, so there is a part
   some-left : (i m n : ℕ) (c : Collection) → count r payload - i ≡ n →
       says collector c (each i n (part-octets r payload)) ≡ replicate m (waiting false) ++ (handed r false ∷ []) → i < count r payload
   unfolding says each

@@ -1,4 +1,4 @@
--- Whatever meets the contract of `record::split::split` at all arguments splits as promised; and what a collection is opened with is what the
+-- Whatever meets the contract of `record::split::split` at all arguments splits as promised; and a collection is opened in the state that the
 -- demands start from.
 use Prim.Native.Nat.{ℕ}
 use mathlib.Core.Path.{_≡_, refl}
@@ -32,7 +32,7 @@ use Rattle.demands.specs.Behaviour.{SplitsAsPromised, CollectsAsPromised
 use Rattle.demands.proofs.Dropping.{Ready, ready-open, ready-fixed}
 use Rattle.demands.proofs.Taken.{Sent}
 
--- any reply, and anything left at exit, for octets that are lent at any place
+-- any reply, and any state at exit, for octets that are lent at any address
 module _ (κs : Lfts 1) (lend : List ℕ → (ℕ × ℕ) × GName) (reply : Record → ℕ → ℕ → List ℕ → SplitAnswer)
     (exit : Record → ℕ → ℕ → List ℕ → AtExit (endedOf 1 kinds.ps kinds.r) κs) where
   abbrev Meets : Type 0
@@ -44,7 +44,7 @@ module _ (κs : Lfts 1) (lend : List ℕ → (ℕ × ℕ) × GName) (reply : Rec
       SplitsAsPromised (record { answer = λ r payload i out. meant (reply r payload i out); left = λ r payload i out. now (exit r payload i out .1 .1 .1 .0) })
   by-contract meets = record { answers = λ r payload i out. meets r payload i out .0; leaves = λ r payload i out. meets r payload i out .1 }
 
--- the same of a collector: any steps that meet the contract of `service::collector::collect`, and any openings that meet that of `open`
+-- the same for a collector: any steps that meet the contract of `service::collector::collect`, and any openings that meet that of `open`
 module _ (κs : Lfts 1) (lend : List ℕ → (ℕ × ℕ) × GName) (step : Collection → List ℕ → Step) (exit : Collection → List ℕ → AtExit (endedOf 1 collect-kinds.ps collect-kinds.r) κs)
     (begin : ℕ → Told → Opened) (end : ℕ → Told → AtExit (endedOf 0 open-kinds.ps open-kinds.r) tt) where
   pub by-contracts :

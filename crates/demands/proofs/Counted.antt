@@ -1,4 +1,4 @@
--- What goes missing: counting it, and what is held and said while it does.
+-- Missing notifications: counting them, and what is held and answered meanwhile.
 use Prim.Native.Nat.{ℕ, zero, suc, _+_, _*_, _%_, _^_, _<_, _≤_}
 use mathlib.Core.Path.{_≡_, refl, sym, ap, _∙_}
 use mathlib.Core.Logic.{_⊎_}
@@ -19,7 +19,7 @@ use Rattle.demands.proofs.Held.{Held}
 
 -- ---- counting what is missing
 
--- how many are missing at the end of arrivals, if m are missing before them
+-- how many are missing in a row at the end of arrivals, if m are missing just before them
 unfoldable pub after : ℕ → List Bool → ℕ
 after m [] = m
 after m (true ∷ bs) = after 0 bs
@@ -39,13 +39,13 @@ gaps-rest k m (false ∷ bs) ys g = gaps-rest k (suc m) bs ys (g .1)
 
 -- ---- lists of sets
 
--- the first n sets are h at most
+-- the first n sets are at most h, as numbers
 unfoldable pub Under : ℕ → ℕ → List ℕ → Type 0
 Under h zero ss = Unit {0}
 Under h (suc n) [] = Unit {0}
 Under h (suc n) (s ∷ ss) = (s ≤ h) × Under h n ss
 
--- the sets are below x
+-- the sets are below x, as numbers
 unfoldable pub Below : ℕ → List ℕ → Type 0
 Below x [] = Unit {0}
 Below x (s ∷ ss) = (s < x) × Below x ss
@@ -74,12 +74,12 @@ pub data Between (m : ℕ) (S : List ℕ) (h : ℕ) (z : List ℕ) : Type 0 wher
   empty : h ≡ 0 → z ≡ zeros → Between m S h z
   stale : 2 ≤ length S → 1 ≤ m → (n : ℕ) → suc n + m ≡ length S → Under h (suc n) S → Between m S h z
 
--- within a record, after l of its parts
+-- what is held within a record, after l of its parts
 pub data Since (l m : ℕ) (S : List ℕ) (h : ℕ) (z : List ℕ) : Type 0 where
   nothing : h ≡ 0 → z ≡ zeros → Since l m S h z
   some : 2 ≤ length S → (n : ℕ) → n + m ≡ l → Under h n S → Since l m S h z
 
--- ---- what is said of one record
+-- ---- the answers to the parts of one record
 pub record Ending (r : Sent) (full : Type 0) (bs : List Bool) (said : List Said) : Type 0 where
   pub before : List Said
   pub final : Said

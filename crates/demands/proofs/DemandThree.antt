@@ -81,7 +81,7 @@ unfolding parts
 length-parts r [] = refl
 length-parts r (s ∷ ss) = ap suc (length-parts r ss)
 
--- k is 1 at least
+-- k is at least 1
 pub pieces-some : (r : Record) → Good r → (payload : ℕ) → payload-known payload ≡ true → 0 < length (pieces splitter payload r)
 pieces-some r w payload p =
     rw (pieces-are r w payload p, length-parts (sent r w) (sets payload (sent r w))) (cuts-some (record-cuts (sent r w) payload (low r w payload p)))

@@ -31,7 +31,7 @@ use Rattle.demands.proofs.Emptied.{emptied}
 abbrev pub Comes : Sent → List Said → Type 0
 Comes r said = (n : ℕ) × (said ≡ replicate n (waiting false) ++ (handed (r .whole) false ∷ []))
 
--- what is said to one notification, and to the rest
+-- the answer to the first, and those to the rest
 says-first : (c : Collection) (s : List ℕ) (ss : List (List ℕ)) (x : Stepped) → collect c s ≡ x → says collector c (s ∷ ss) ≡ x .said ∷ says collector (x .next) ss
 unfolding says
 says-first c s ss x e = rw e
@@ -51,7 +51,7 @@ module _ (r : Sent) (payload : ℕ) (least : 20 ≤ payload) (most : payload ≤
             ∙ ap (λ (l : List Said). waiting false ∷ l) (y .1),
       )
 
-  -- each part fits
+  -- each part fits the payload
   short-part : (s : ℕ) → set-length (r .kind) s ≤ payload - flags-octets (r .kind) → length (part r s) ≤ payload
   short-part s f =
       let m : flags-octets (r .kind) ≤ 3 = flags-most (r .kind) in rw (octets-length (r .kind) s (r .direction) (r .numbers)) (omega arith)

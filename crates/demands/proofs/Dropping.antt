@@ -13,7 +13,7 @@ use Rattle.record.proofs.Tests.{passed, failed, tested, leb-true, leb-false, eq
 use Rattle.record.proofs.Cuts.{mod-multiple}
 use Rattle.service.proofs.Lowest.{lowest-le, lowest-ge}
 
--- groups that stand above all that are held drop nothing
+-- groups that are above all held ones drop nothing
 pub keeps : (t : Told) (h p b : ℕ) → h < 2 ^ b → p * 2 ^ b < 2 ^ 15 → drops t h (p * 2 ^ b) ≡ false
 keeps Open h p b l m = rw (and-comm h (p * 2 ^ b), and-shifted p b h l)
 keeps (Fixed set) h p b l m = elim (tested (eqb (p * 2 ^ b) 0)) [
@@ -25,7 +25,7 @@ keeps (Fixed set) h p b l m = elim (tested (eqb (p * 2 ^ b) 0)) [
       rw (e, f)
 ]
 
--- told a set: groups whose number is at most that of the held ones drop them
+-- told a set: groups that are at most the held ones, as numbers, drop them
 pub falls : (set h g : ℕ) → 0 < g → g ≤ h → drops (Fixed set) h g ≡ true
 falls set h g p l =
     let e : eqb g 0 ≡ false = eqb-false (λ (x : g ≡ 0). omega arith) in

@@ -1,5 +1,5 @@
--- What a step of ours leaves: after a record and after a refusal 30 to 34 it holds nothing, and its state is the one that it was opened with; after a refusal
--- 10 to 22 its state is what it was.
+-- The state after a step of our collector: after a record and after a refusal 30 to 34 it holds nothing, and is the state that it was opened with; after a
+-- refusal 10 to 22 it is unchanged.
 use Prim.Native.Nat.{ℕ, _≤_}
 use mathlib.Core.Path.{_≡_, refl, sym, ap, ap₂, _∙_}
 use mathlib.Core.Bool.{Bool, true, false, cond, not}
@@ -20,8 +20,8 @@ use Rattle.service.proofs.Joining.{by-cases}
 use Rattle.demands.specs.Demands.{Reached, at-first, then, Empty, opened, after-record, after-refusal as refusing}
 use Rattle.demands.proofs.Pieces.{collector}
 
--- what a step leaves: the kind and what was told stay; after a record nothing is held, and after a refusal 30 to 34 neither; a refusal 10 to 22 leaves all
--- as it was, and each says whether any were held before it
+-- what a step leaves: the kind and what was told stay; after a record, and after a refusal 30 to 34, nothing is held; a refusal 10 to 22 leaves everything as
+-- it was; and each refusal says whether any groups were held before it
 record Leaves (c : Collection) (x : Stepped) : Type 0 where
   same-kind : x .next .kind ≡ c .kind
   same-told : x .next .told ≡ c .told
@@ -106,12 +106,12 @@ pub says-held : (c : Collection) (s : List ℕ) (n : ℕ) (d : Bool) → collect
 says-held c s = leaves c s .flagged
 
 module _ (kind : ℕ) (told : Told) where
-  -- whatever has come, kind and what was told are those of the opening
+  -- whatever was received, the kind and what was told are those of the opening
   pub reached : {c : Collection} → Reached collector kind told c → (c .kind ≡ kind) × (c .told ≡ told)
   reached at-first = (refl, refl)
   reached (then {state = c} h s) = (leaves c s .same-kind ∙ reached h .0, leaves c s .same-told ∙ reached h .1)
 
-  -- "Nothing is held after either." "A refusal 30 to 34 leaves nothing held.": the state is the opened one
+  -- "Nothing is held after either." "A refusal 30 to 34 leaves nothing held.": the state is that just after opening
   pub emptied : {c : Collection} → Empty collector kind told c → c ≡ empty kind told
   emptied opened = refl
   emptied (after-record {state = c} h s r d e) = leaves c s .after-handed r d e ∙ ap₂ empty (reached h .0) (reached h .1)

@@ -34,14 +34,14 @@ module _ (r : Record) (payload : ℕ) where
     ]
   ]
 
-  -- where the splitter answers with a part, the record is well formed and the payload in range, and the record comes back
+  -- if the splitter answers with a part, the record is well formed and the payload in range, and the record comes back
   pub if-given : (e : Extent) → split-of r payload 0 512 ≡ given e → (well-formed r ≡ true) × (payload-known payload ≡ true) × (back-of r payload ≡ given r)
   if-given e h = elim judged [
     | refusing n f b ↦ absurd (never e n (sym h ∙ f))
     | splitting w p x f b ↦ (w, p, b)
   ]
 
-  -- where it refuses, that is what comes back
+  -- if it refuses, that refusal is what comes back
   pub if-refused : (n : ℕ) → split-of r payload 0 512 ≡ refused n → back-of r payload ≡ refused n
   if-refused n h = elim judged [
     | refusing m f b ↦ b ∙ ap refused (number-same m n (sym f ∙ h))

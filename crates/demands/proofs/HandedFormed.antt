@@ -1,4 +1,4 @@
--- Whatever octets a collector has heard, what it hands out is a well-formed record: no value of a record before is left in it.
+-- Whatever octets a collector has received, it hands out a well-formed record: no value of an earlier record is left in it.
 use Prim.Native.Nat.{ℕ, _-_, _%_, _<_}
 use mathlib.Core.Path.{_≡_, refl, sym, ap, _∙_, subst}
 use mathlib.Core.Bool.{Bool, true, false, cond, true≢false}
@@ -25,7 +25,7 @@ use Rattle.service.proofs.Joining.{by-cases}
 use Rattle.demands.specs.Demands.{Good}
 use Rattle.demands.proofs.Samples.{good}
 
--- the states to which octets lead from an opening
+-- the states that octets lead to from an opening
 pub data Fed (kind : ℕ) (told : Told) : Collection → Type 0 where
   at-first : Fed kind told (empty kind told)
   then : {c : Collection} → Fed kind told c → (s : List ℕ) → ((i : ℕ) → getD s i 0 < 256) → Fed kind told (collect c s .next)
@@ -45,7 +45,7 @@ tidy-empty kind told k = record {
   clean = clean-zeros kind;
 }
 
--- what a step leaves, and what it hands out
+-- a step leaves such a state, and hands out good records only
 record Tidied (x : Stepped) : Type 0 where
   next-tidy : Tidy (x .next)
   hands-good : (r : Record) (d : Bool) → x .said ≡ handed r d → Good r
@@ -76,7 +76,7 @@ module _ (c : Collection) (t : Tidy c) (s : List ℕ) (octets : (i : ℕ) → ge
   left-clean true = clean-zeros (c .kind)
   left-clean false = t .clean
 
-  -- a part that joins, as its flags name it
+  -- a part that joins, with the groups that its flags name
   tidied-joined : (dropped : Bool) →
       let p : Part = record { groups = optional (names (c .kind) (flags-of (c .kind) s)); last = eqb (flags-of (c .kind) s % 2) 0; direction = heading (c .kind) (flags-of (c .kind) s) } in
       Tidied (joins c p s dropped)
@@ -122,7 +122,7 @@ tidy : (kind : ℕ) (told : Told) → known kind ≡ true → {c : Collection} �
 tidy kind told k at-first = tidy-empty kind told k
 tidy kind told k (then {c = c} f s octets) = tidied c (tidy kind told k f) s octets .next-tidy
 
--- whatever octets it has heard, and hears now
+-- whatever octets it has received, and receives now
 pub handed-formed : (kind : ℕ) (told : Told) → known kind ≡ true → {c : Collection} → Fed kind told c → (s : List ℕ) → ((i : ℕ) → getD s i 0 < 256) →
     (r : Record) (d : Bool) → collect c s .said ≡ handed r d → Good r
 handed-formed kind told k {c} f s octets = tidied c (tidy kind told k f) s octets .hands-good

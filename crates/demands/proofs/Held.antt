@@ -1,4 +1,4 @@
--- A collection that holds part of one record, and the next part of it.
+-- A collection that holds part of a record, and its next part.
 use Prim.Native.Nat.{ℕ, _+_, _*_, _-_, _/_, _%_, _^_, _<_, _≤_, max}
 use mathlib.Core.Path.{_≡_, refl, sym, ap, _∙_, subst}
 use mathlib.Core.Bool.{true, false, cond}
@@ -50,7 +50,7 @@ record-cuts r payload low =
     (cuts (r .kind) room (the-sound (r .kind) (r .groups) (r .direction) (r .numbers) (r .formed)) (omega arith) 16 1 (r .groups / 2) (omega arith) (omega arith)
     (omega arith))
 
--- ---- what is held, where the groups still to come are q * 2 ^ b
+-- ---- what is held, when the groups still to come are q * 2 ^ b
 
 pub record Held (r : Sent) (b q h : ℕ) (z : List ℕ) : Type 0 where
   pub least : 1 ≤ b
@@ -94,7 +94,7 @@ module _ (r : Sent) (b q h : ℕ) (z : List ℕ) (c : Held r b q h z) (d : ℕ) 
         numbers-held = ap (with-numbers r s) (c .numbers-held) ∙ sym (kept-or h s (layout (r .kind)) (r .numbers) zeros);
       }
 
-  -- what is held and what is to come stay the same groups together
+  -- what is held and to come are still all groups of the record
   pub whole-next : bitOr h (q * 2 ^ b) ≡ r .groups → bitOr (bitOr h (q % 2 ^ d * 2 ^ b)) (q / 2 ^ d * 2 ^ (d + b)) ≡ r .groups
   whole-next e =
       let s : ℕ = q % 2 ^ d * 2 ^ b in
@@ -117,7 +117,7 @@ module _ (r : Sent) (b q h : ℕ) (z : List ℕ) (c : Held r b q h z) (d : ℕ) 
         numbers-held = c .numbers-held;
       }
 
--- the main group beside others
+-- the main group together with others
 or-main : (h g : ℕ) → h % 2 ≡ 0 → g % 2 ≡ 0 → bitOr h (1 + g) ≡ 1 + bitOr h g
 or-main h g i j =
     let a : bitOr h (1 + g) ≡ bitOr (h / 2) ((1 + g) / 2) * 2 + max (h % 2) ((1 + g) % 2) = or-step h (1 + g) in
@@ -157,7 +157,7 @@ module _ (r : Sent) (payload : ℕ) (low : 20 ≤ payload) (high : payload ≤ 5
         let n : r .groups < 2 ^ 15 = low-groups r in
         goes r s sub-part-main payload low high fit t h s z same-part (inside s ready sub-part) not-last (keeps t h (q % 2 ^ d) b below (omega arith))
 
-    -- a part not above what is held, of an earlier record
+    -- a part that is not above what is held of an earlier record
     pub starts : (h : ℕ) (z : List ℕ) → 0 < q % 2 ^ d * 2 ^ b → q % 2 ^ d * 2 ^ b ≤ h →
         collect (holding (r .kind) (Fixed (r .groups)) h z) (part r (q % 2 ^ d * 2 ^ b)) ≡
         record { said = waiting true; next = holding (r .kind) (Fixed (r .groups)) (q % 2 ^ d * 2 ^ b) (with-numbers r (q % 2 ^ d * 2 ^ b) zeros) }
@@ -191,7 +191,7 @@ module _ (r : Sent) (payload : ℕ) (low : 20 ≤ payload) (high : payload ≤ 5
         ∙ ap (λ (x : ℕ). with-numbers r x zeros) (or-main h g (c .even) last-even ∙ ap (λ (x : ℕ). 1 + x) e)
         ∙ r .formed .absent
 
-    -- with the last part the groups are whole, or they are not
+    -- with the last part the groups are complete, or they are not
     pub hands : (t : Told) → Ready (r .groups) t → bitOr h (q * 2 ^ b) ≡ r .groups →
         collect (holding (r .kind) t h z) (part r (1 + q * 2 ^ b)) ≡ record { said = handed (r .whole) false; next = holding (r .kind) t 0 zeros }
     hands t ready e =

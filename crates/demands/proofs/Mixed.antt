@@ -1,4 +1,4 @@
--- Parts of two records that pass as one: of a fixed collector that drops only on a repeat, and of ours where k notifications in a row are missing.
+-- Parts of two records that pass as one: in a fixed collector that drops only on a repeat, and in ours if k notifications in a row are missing.
 use Prim.Native.Nat.{ℕ}
 use mathlib.Core.Path.{_≡_, refl, sym, ap, _∙_, subst, subst₂}
 use mathlib.Core.Logic.{_⊎_, inl, inr}
@@ -24,7 +24,7 @@ use Rattle.demands.proofs.Pieces.{splitter, collector}
 use Rattle.demands.proofs.Samples.{trainer, trainer-octets, trainer-1, trainer-2, climber, climber-octets, climber-1, climber-2}
 use Rattle.demands.proofs.Refuted.{last-said}
 
--- open's rule of dropping, in every collection
+-- the open rule of dropping, in every collection
 abbrev repeats : Collection → Answer Part → List ℕ → Stepped
 repeats c (Answer.refused n) s = refuses c n
 repeats c (given p) s = cond (outside (c .told) (p .groups)) (refuses c 33) (joins c p s (drops Open (c .held) (p .groups)))
@@ -38,7 +38,7 @@ mixed : heard repeating (heard repeating (empty 2 (Fixed 0x7FFE)) (trainer-octet
 unfolding heard part-of joins values read-into number layout tables cross-trainer has named size groups-of listed
 mixed = refl
 
--- a record that is handed out at a last part is that part's
+-- a record that is handed out at a last part is the record of that part
 own-record : (r x : Record) (d : Bool) (said : List Said) (bs : List Bool) → last-of bs ≡ true → Faithful r bs (said ++ (handed x d ∷ [])) → x ≡ r
 own-record r x d said bs t f =
     let c : (before : List Said) × (a : Said) × ((said ++ (handed x d ∷ [])) ≡ before ++ (a ∷ [])) × Waits before × (Hands r a ⊎ Incomplete a) × (all-true bs ≡ true → Hands r a) = f .1 t in
@@ -68,8 +68,8 @@ not-repeating d =
     let z : pos 1 ≡ pos 2 = ap (λ (r : Record). r .power) h in
     let y : _≡_ {A = ℕ} 1 2 = cc in omega arith
 
--- ---- "never k or more in a row": with k = 2 missing in a row, ours takes the first part of one step climber and the last of another, told the
--- set, for a record that is neither
+-- ---- "never k or more in a row": if k = 2 in a row are missing, our collector, told the set, makes the first part of one step climber and the
+-- last part of another into a record that is neither
 
 abbrev lost-last : List Bool
 lost-last = true ∷ false ∷ []
@@ -94,7 +94,7 @@ neither = (
   λ e. let z : _≡_ {A = ℕ} 1 2 = ap (λ (r : Record). r .elapsed) e in omega arith,
 )
 
--- so what demand 3 promises fails there, though 3 in a row are never missing
+-- so the promise of demand 3 fails there, although 3 in a row are never missing
 pub loss-condition-needed : Gaps 3 0 (flat (lost-last ∷ lost-first ∷ [])) ×
     (AllFaithful splitter collector 20 (empty 3 (Fixed 0x1FE)) (climber 1 1 ∷ climber 2 2 ∷ []) (lost-last ∷ lost-first ∷ []) → ⊥)
 unfolding AllFaithful Gaps flat last-of

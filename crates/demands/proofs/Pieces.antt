@@ -1,5 +1,5 @@
--- The notifications that a host sends, if the splitter is as promised: the octets of the record's parts. Splitter and collector as promised
--- are ours.
+-- The notifications that a host sends, if the splitter keeps its contract: the octets of the record's parts. A splitter and a collector
+-- that keep their contracts are equal to ours.
 use Prim.Native.Nat.{ℕ, suc, _+_, _<_, _≤_, suc-le-suc}
 use mathlib.Core.Path.{_≡_, refl, sym, ap, ap₂, _∙_}
 use mathlib.Core.Bool.{true}
@@ -45,7 +45,7 @@ is-collector opened said next p =
 
 -- ---- what it writes
 
--- what is numbered is what a list has, one after the other
+-- `each` over the indices of a list is `map` over the list
 pub each-map : {A : Type 0} (ss : List ℕ) (from : ℕ) (f g : ℕ → A) → ((i : ℕ) → i < length ss → f (from + i) ≡ g (getD ss i 0)) → each from (length ss) f ≡ map g ss
 unfolding each
 each-map [] from f g h = refl
@@ -60,7 +60,7 @@ unfolding parts
 mapped r [] = refl
 mapped r (s ∷ ss) = ap (λ (l : List (List ℕ)). part r s ∷ l) (mapped r ss)
 
--- the sets of a list, one after the other
+-- the same for the parts with the sets of a list
 pub each-of : (r : Sent) (ss : List ℕ) (from : ℕ) (f : ℕ → List ℕ) → ((i : ℕ) → i < length ss → f (from + i) ≡ part r (getD ss i 0)) → each from (length ss) f ≡ parts r ss
 each-of r ss from f h = each-map ss from f (part r) h ∙ sym (mapped r ss)
 
@@ -81,7 +81,7 @@ module _ (r : Record) (w : well-formed r ≡ true) (payload : ℕ) (p : payload-
       let m : payload ≤ 512 = most in
       rw (octets-length (r .kind) (set-at (r .kind) (r .groups) payload i) (r .direction) (wire r)) (omega arith)
 
-  -- lent room for the part, it answers with the part's length and the number of parts
+  -- lent enough octets for the part, it answers with the part's length and the number of parts
   pub answered-in : (i lent : ℕ) → i < count → length (part-octets r payload i) ≤ lent →
       split-of r payload i lent ≡ given (record { length = length (part-octets r payload i); parts = count })
   unfolding split-wire extent-of
@@ -91,7 +91,7 @@ module _ (r : Record) (w : well-formed r ≡ true) (payload : ℕ) (p : payload-
       let s : leb (length (part-octets r payload i)) lent ≡ true = le-leb (length (part-octets r payload i)) lent l in
       rw (k, p, w, lt-ltb i count h, s)
 
-  -- so it does where 512 octets are lent
+  -- so it does when 512 octets are lent
   pub answered : (i lent : ℕ) → i < count → 512 ≤ lent → split-of r payload i lent ≡ given (record { length = length (part-octets r payload i); parts = count })
   answered i lent h l = answered-in i lent h (le-trans (part-short i h) l)
 

@@ -23,7 +23,7 @@ use Rattle.demands.specs.Demands.{Good, opened, Waits, Hands, Incomplete
 use Rattle.demands.proofs.Pieces.{splitter, collector}
 use Rattle.demands.proofs.Samples.{bike, bike-octets, bike-1, bike-2}
 
--- what is said last
+-- equal lists of answers have equal last answers
 pub last-said : (said before : List Said) (x a : Said) → said ++ (x ∷ []) ≡ before ++ (a ∷ []) → x ≡ a
 last-said [] [] x a e = cc
 last-said [] (z ∷ before) x a e =
@@ -34,15 +34,15 @@ last-said (y ∷ said) (z ∷ before) x a e = last-said said before x a (cc)
 
 -- ---- demand 2
 
--- what demand 2 asks to be said
+-- the answers that demand 2 asks for
 abbrev answers : ℕ → Record → List Said
 answers n r = replicate n (waiting false) ++ (handed r false ∷ [])
 
--- something is said
+-- there is at least one answer
 said-some : (n : ℕ) (r : Record) → [] ≡ answers n r → ⊥
 said-some n r e = let l : 0 ≡ length (replicate n (waiting false)) + 1 = ap length e ∙ length-append (replicate n (waiting false)) (handed r false ∷ []) in omega arith
 
--- a record that is said first is the one, and nothing follows
+-- if the first answer is a record, it is the right one, and nothing follows
 said-first : (n : ℕ) (x r : Record) (d : Bool) (rest : List Said) → handed x d ∷ rest ≡ answers n r → (x ≡ r) × (rest ≡ [])
 said-first zero x r d rest e = ((cc), (cc))
 said-first (suc n) x r d rest e = absurd (let z : _≡_ {A = ℕ} 0 1 = cc in omega arith)
@@ -50,11 +50,11 @@ said-first (suc n) x r d rest e = absurd (let z : _≡_ {A = ℕ} 0 1 = cc in om
 bikes-differ : bike 1 ≡ bike 2 → ⊥
 bikes-differ e = let z : _≡_ {A = ℕ} 1 2 = ap (λ (r : Record). r .speed) e in omega arith
 
--- what demand 2 says of a record at payload 20, collected openly from the opening
+-- what demand 2 says about a record at payload 20, collected openly from the opening
 from-opening : (s : Splitter) (c : Collector) → Demand2 s c → (r : Record) → Good r → (n : ℕ) × (says c (c .opened (r .kind) Open) (pieces s 20 r) ≡ answers n r)
 from-opening s c h r w = h .comes-back 20 refl r w Open (inl refl) (c .opened (r .kind) Open) opened
 
--- a collector that hands out one record whatever it hears, in any state, whatever the splitter
+-- a collector that hands out one record whatever it receives, in any state and with any splitter
 module _ (c : Collector) (x : Record) (constant : (state : c .State) (s : List ℕ) → (d : Bool) × (c .step state s .0 ≡ handed x d)) where
   constantly : (state : c .State) (l : List (List ℕ)) (n : ℕ) (r : Record) → says c state l ≡ answers n r → x ≡ r
   unfolding says
@@ -76,7 +76,7 @@ bike-answers : (split-of (bike 1) 20 0 512 ≡ four-of-one) × (split-of (bike 2
 unfolding split-wire extent-of layout tables indoor-bike has named size groups-of listed all-fit others all-zero formed longest cut spelled written
 bike-answers = (refl, refl)
 
--- a splitter that writes as ours and invents the number of parts, f k for k, with our collector
+-- a splitter that writes what ours writes and invents the number of parts, f k for k, with our collector
 abbrev claimed : (ℕ → ℕ) → Answer Extent → Answer Extent
 claimed f (Answer.refused n) = Answer.refused n
 claimed f (given e) = given (record { length = e .length; parts = f (e .parts) })
@@ -84,12 +84,12 @@ claimed f (given e) = given (record { length = e .length; parts = f (e .parts) }
 abbrev pub inventing : (ℕ → ℕ) → Splitter
 inventing f = record { answer = λ r payload i out. claimed f (split-of r payload i (length out)); left = lent-after }
 
--- ours has the record with the first part
+-- our collector hands out the record at the first part
 bike-taken : collect (empty 6 Open) (bike-octets 1) .said ≡ handed (bike 1) false
 unfolding collect part-of joins values read-into number layout tables indoor-bike has named size groups-of listed
 bike-taken = refl
 
--- after a record nothing more is to be said
+-- after a record no answer may follow
 nothing-more : (c : Collector) (state : c .State) (s t : List ℕ) (ss : List (List ℕ)) (n : ℕ) (r x : Record) (d : Bool) → c .step state s .0 ≡ handed x d →
     says c state (s ∷ t ∷ ss) ≡ answers n r → ⊥
 unfolding says
@@ -98,7 +98,7 @@ nothing-more c state s t ss n r x d e a =
     let p : rest ≡ [] = said-first n x r d rest (ap (λ (y : Said). y ∷ rest) (sym e) ∙ a) .1 in
     let l : suc (length (says c (c .step (c .step state s .1) t .1) ss)) ≡ 0 = ap length p in omega arith
 
--- so there is one part, neither none nor more
+-- so there is exactly one part
 one-claimed : (k n : ℕ) (f : ℕ → List ℕ) → f 0 ≡ bike-octets 1 → says collector (empty 6 Open) (each 0 k f) ≡ answers n (bike 1) → k ≡ 1
 unfolding each
 one-claimed zero n f e a = absurd (said-some n (bike 1) (unfold says in a))
@@ -106,7 +106,7 @@ one-claimed (suc zero) n f e a = refl
 one-claimed (suc (suc k)) n f e a =
     absurd (nothing-more collector (empty 6 Open) (f 0) (f 1) (each 2 k f) n (bike 1) (bike 1) false (ap (λ (s : List ℕ). collect (empty 6 Open) s .said) e ∙ bike-taken) a)
 
--- the first of its notifications is ours
+-- its first notification is the same as ours
 claimed-piece : (f : ℕ → ℕ) (answer : Answer Extent) (left : List ℕ) → answer ≡ four-of-one → take (length-of (claimed f answer)) left ≡ take 4 left
 claimed-piece f answer left e = rw e
 
@@ -150,7 +150,7 @@ module _ (c : Collector) where
       Faithful (bike 1) (true ∷ []) (heard c (c .opened 6 (Fixed 0)) l (true ∷ []) .0) ×
       (Faithful (bike 1) (true ∷ []) (heard c (heard c (c .opened 6 (Fixed 0)) l (true ∷ []) .1) l (true ∷ []) .0) × Unit {0})
 
-  -- what a collector must say to that record, sent twice with nothing lost
+  -- what a collector must answer to that record, sent twice with nothing lost
   bike-twice : Demand3 splitter c →
       Hands (bike 1) (c .step (c .opened 6 (Fixed 0)) (bike-octets 1) .0) ×
       Hands (bike 1) (c .step (c .step (c .opened 6 (Fixed 0)) (bike-octets 1) .1) (bike-octets 1) .0)
@@ -163,13 +163,13 @@ module _ (c : Collector) where
       let g : Twice (bike-octets 1 ∷ []) = subst Twice (bike-1 .spells) f in
       (one-part (bike 1) (c .step (c .opened 6 (Fixed 0)) (bike-octets 1) .0) (g .0), one-part (bike 1) (c .step (c .step (c .opened 6 (Fixed 0)) (bike-octets 1) .1) (bike-octets 1) .0) (g .1 .0))
 
--- a collector all of whose answers are refusals, whichever numbers and flags
+-- a collector whose answers are all refusals, with any numbers and flags
 pub not-refusing : (c : Collector) → ((state : c .State) (s : List ℕ) → (n : ℕ) × (d : Bool) × (c .step state s .0 ≡ refused n d)) → Demand3 splitter c → ⊥
 not-refusing c refuses h =
     let x : (n : ℕ) × (d : Bool) × (c .step (c .opened 6 (Fixed 0)) (bike-octets 1) .0 ≡ refused n d) = refuses (c .opened 6 (Fixed 0)) (bike-octets 1) in
     not-handed (bike 1) (x .0) (x .1) (subst (Hands (bike 1)) (x .2) (bike-twice c h .0))
 
--- one that only waits after its first record: at the notification behind one that it answered with a record
+-- one that only waits after its first record: it waits at the notification after each that gave a record
 pub not-muted : (c : Collector) →
     ((state : c .State) (s : List ℕ) (r : Record) (d : Bool) → c .step state s .0 ≡ handed r d → (t : List ℕ) →
     (e : Bool) × (c .step (c .step state s .1) t .0 ≡ waiting e)) →

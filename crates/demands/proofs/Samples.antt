@@ -1,4 +1,4 @@
--- Sample records, their notifications at payload 20, and what ours says to them: computed.
+-- Sample records and their notifications at payload 20, by computation.
 use Prim.Native.Nat.{ℕ, _%_, _^_}
 use mathlib.Core.Path.{_≡_, refl, ap, _∙_}
 use mathlib.Core.Bool.{true}
@@ -22,7 +22,7 @@ use Rattle.demands.specs.Demands.{Good}
 use Rattle.demands.proofs.Taken.{sent, parts}
 use Rattle.demands.proofs.Pieces.{splitter, mapped, pieces-are}
 
--- a record of numbers that are well formed
+-- well-formed numbers make a good record
 pub good : (k g d : ℕ) (v : List ℕ) → length v ≡ 31 → formed k g d v ≡ true → Good (of-wire k g d v)
 good k g d v l h =
     let t : in-types v ≡ true = formed-in-types k g d v h l in
@@ -75,7 +75,7 @@ pub bike-2 : Sample (bike 2) (bike-octets 2 ∷ [])
 unfolding layout tables indoor-bike has named size groups-of listed all-fit others all-zero formed longest cut spelled written
 bike-2 = sample 6 0 0 (set zeros 0 2) (1 ∷ []) _ refl refl refl refl
 
--- a cross trainer with all groups and a power, in the second of its three parts
+-- a cross trainer with all groups and a given power, which is in the second of its three parts
 abbrev pub trainer : ℕ → Record
 trainer x = of-wire 2 0x7FFE 0 (set zeros 26 x)
 

@@ -1,4 +1,4 @@
--- Wrong splitters that a collector of their own, or none, would find out: each refuted by demand 2, whatever the collector.
+-- Wrong splitters that some collector, or every collector, would not notice: each is refuted by demand 2, whatever the collector.
 use Prim.Native.Nat.{ℕ, _<_, _≤_}
 use mathlib.Core.Path.{_≡_, refl, sym, ap, _∙_, subst}
 use mathlib.Core.Bool.{true, false, cond}
@@ -29,12 +29,12 @@ use Rattle.demands.proofs.Samples.{bike, bike-1, climber, climber-1}
 
 -- ---- the number of parts
 
--- any splitter whose number differs at some well-formed record, payload and part
+-- any splitter whose number of parts is wrong for some well-formed record, payload and part
 pub not-miscounting : (s : Splitter) (payload : ℕ) → payload-known payload ≡ true → (r : Record) → Good r → (i : ℕ) → i < count r payload →
     (parts-of (s .answer r payload i buffer) ≡ count r payload → ⊥) → (c : Collector) → Demand2 s c → ⊥
 not-miscounting s payload p r w i h n c d = n (ap parts-of (d .splits payload p r w .answers i h buffer (part-short r (w .formed) payload p i h)))
 
--- one that writes as ours and claims a number of parts of its own
+-- one that writes what ours writes and claims a number of parts of its own
 abbrev with-parts : ℕ → Answer Extent → Answer Extent
 with-parts n (refused x) = refused x
 with-parts n (given e) = given (record { length = e .length; parts = n })
@@ -78,7 +78,7 @@ back-again (refusing n d) = refusing n d
 abbrev pub exchanging-back : Collector
 exchanging-back = record { State = Collection; opened = empty; step = λ c s. (back-again (collect c s .said), collect c s .next) }
 
--- a cross trainer's record comes back from the two: what is said cannot tell
+-- a cross trainer's record comes back from the two: the answers do not show it
 pub comes-back-exchanged :
     says exchanging-back (empty 2 Open) (pieces exchanging 20 Samples.cross-trainer) ≡ waiting false ∷ waiting false ∷ handed Samples.cross-trainer false ∷ []
 unfolding says each split-wire extent-of layout tables cross-trainer has named size groups-of listed all-fit others all-zero formed longest cut spelled written collect part-of joins values read-into number
@@ -87,11 +87,11 @@ comes-back-exchanged = refl
 trainer-good : Good Samples.cross-trainer
 trainer-good = record { typed = trainer-typed; formed = trainer-formed }
 
--- but what is written can: in the one notification, where document 01 has positive gain, F2 03, this one has negative gain, F3 03
+-- but what is written does: where document 01 has positive gain, F2 03, the one notification has negative gain, F3 03
 abbrev gain-octet : List ℕ → ℕ
 gain-octet s = getD s 16 0
 
--- a record is split at 512 into one part of 512 octets at most
+-- at payload 512 the record has a first part
 in-one : 0 < count Samples.cross-trainer 512
 unfolding layout tables cross-trainer has named size groups-of listed longest cut
 in-one = omega arith
@@ -113,7 +113,7 @@ one-part : (0 < count (bike 1) 20) × (part-octets (bike 1) 20 0 ≡ 0 ∷ 0 ∷
 unfolding layout tables indoor-bike has named size groups-of listed longest cut spelled written
 one-part = (omega arith, refl)
 
--- what any splitter must leave of it in what is lent
+-- what any splitter must leave of it in the lent buffer
 must-leave : (s : Splitter) (c : Collector) → Demand2 s c → (out : List ℕ) → 4 ≤ length out → s .left (bike 1) 20 0 out ≡ over out (0 ∷ 0 ∷ 1 ∷ 0 ∷ [])
 must-leave s c d out l =
     d .splits 20 refl (bike 1) (bike-1 .is-good) .leaves 0 (one-part .0) out (subst (λ (o : List ℕ). length o ≤ length out) (sym (one-part .1)) l)
@@ -125,7 +125,7 @@ not-silent s nothing c d =
     let e : replicate 4 0 ≡ over (replicate 4 0) (0 ∷ 0 ∷ 1 ∷ 0 ∷ []) = sym (nothing (bike 1) 20 0 (replicate 4 0)) ∙ must-leave s c d (replicate 4 0) (omega arith) in
     let z : _≡_ {A = ℕ} 0 1 = ap (λ (l : List ℕ). getD l 2 0) e in omega arith
 
--- one that leaves 512 octets of its own, whatever is lent, and past the part's length zeros
+-- one that leaves 512 octets of its own, whatever is lent, with zeros past the part's length
 abbrev pub wiping : Splitter
 wiping = record { answer = λ r payload i out. split-of r payload i 512; left = λ r payload i out. lent-after r payload i buffer }
 

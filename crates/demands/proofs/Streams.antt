@@ -1,4 +1,4 @@
--- One record of which parts are lost, told its set: what is said, and what is held afterwards.
+-- A record of which parts are lost, its set told: the answers, and what is held afterwards.
 use Prim.Native.Nat.{ℕ, zero, suc, _+_, _*_, _-_, _/_, _%_, _^_, _<_, _≤_}
 use mathlib.Core.Path.{_≡_, refl, sym}
 use mathlib.Core.Logic.{inl, inr}
@@ -24,7 +24,7 @@ use Rattle.demands.proofs.Pieces.{collector}
 use Rattle.demands.proofs.Counted.{after, Under, Below, cuts-some, Between, empty, stale, Since, nothing, some, Outcome, lost, arrived, snoc-split, one-longer, lose, gap-less, gap-on, gap-over, under-head, under-tail, covered, below-next, since-next}
 
 module _ (r : Sent) (payload : ℕ) (least : 20 ≤ payload) (most : payload ≤ 512) (S : List ℕ) where
-  -- the last part of the record that is held, lost and arrived
+  -- the last part of the record that is held: lost, or arrived
   last-lost : (l m h : ℕ) (z : List ℕ) (full : Type 0) → suc l ≡ length S → Since l m S h z → (2 ≤ length S → Gaps (length S) m (false ∷ [])) →
       Outcome r full S m (false ∷ []) ([], holding (r .kind) (Fixed (r .groups)) h z)
   unfolding Waits last-of Gaps after
@@ -83,7 +83,7 @@ module _ (r : Sent) (payload : ℕ) (least : 20 ≤ payload) (most : payload ≤
         })
   ]
 
-  -- one more part of the record that is held, lost and arrived, given what comes after it
+  -- one more part of the record that is held: lost, or arrived, given what comes after it
   module _ (b q d : ℕ) (ss : List ℕ) (f : set-length (r .kind) (q % 2 ^ d * 2 ^ b) ≤ payload - flags-octets (r .kind))
       (some-left : 0 < length ss) (bs : List Bool) (l : length bs ≡ length ss) (m h : ℕ) (z : List ℕ) where
     bits-left : 0 < length bs
@@ -124,7 +124,7 @@ module _ (r : Sent) (payload : ℕ) (least : 20 ≤ payload) (most : payload ≤
         (arrived r (bitOr t (q / 2 ^ d * 2 ^ (d + b)) ≡ r .groups) (bitOr 0 (q * 2 ^ b) ≡ r .groups) S m bs
         (heard collector (holding (r .kind) (Fixed (r .groups)) t z′) (parts r ss) bs) bits-left true (whole-next r b q 0 zeros c d) o)
 
-  -- what is held is of this record
+  -- what is held is from this record
   current : {b q : ℕ} {ss : List ℕ} → Cuts (r .kind) (payload - flags-octets (r .kind)) b q ss → (pre : List ℕ) → S ≡ pre ++ ss → Below (2 ^ b) pre →
       (m h : ℕ) (z : List ℕ) → Held r b q h z → Since (length pre) m S h z →
       (bs : List Bool) → length bs ≡ length ss → (2 ≤ length S → Gaps (length S) m bs) →
@@ -146,7 +146,7 @@ module _ (r : Sent) (payload : ℕ) (least : 20 ≤ payload) (most : payload ≤
       (since-next S b q d pre ss (bitOr h (q % 2 ^ d * 2 ^ b)) (with-numbers r (q % 2 ^ d * 2 ^ b) z) e (cuts-some k) u p
       (covered r b q h z c d)) bs (suc-inj l) (λ i. gap-over (length S) m bs (g i)))
 
-  -- what is held is of the record before, and is dropped by the next part that arrives
+  -- what is held is from the record before, and is dropped by the next part that arrives
   previous : {b q : ℕ} {ss : List ℕ} → Cuts (r .kind) (payload - flags-octets (r .kind)) b q ss → (pre : List ℕ) → S ≡ pre ++ ss → Below (2 ^ b) pre →
       (m n h : ℕ) (z : List ℕ) → Held r b q 0 zeros → 2 ≤ length S → suc n + m ≡ length S → length S < m + length ss → Under h (suc n) ss →
       (bs : List Bool) → length bs ≡ length ss → Gaps (length S) m bs →

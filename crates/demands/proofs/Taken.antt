@@ -44,7 +44,7 @@ sent r g = record {
   again = record-again r (g .typed);
 }
 
--- its part with a set of groups, bit 0 for the main one, and its parts with some sets
+-- its part with a set of groups (bit 0 the main one), and its parts with some sets
 abbrev pub part : Sent → ℕ → List ℕ
 part r s = octets (r .kind) s (r .direction) (r .numbers)
 
@@ -52,7 +52,7 @@ unfoldable pub parts : Sent → List ℕ → List (List ℕ)
 parts r [] = []
 parts r (s ∷ ss) = part r s ∷ parts r ss
 
--- the numbers of a set's groups, over others
+-- other numbers, with those of a set's groups taken from the record
 abbrev pub with-numbers : Sent → ℕ → List ℕ → List ℕ
 with-numbers r s z = kept (named s (layout (r .kind))) (r .numbers) z
 
@@ -60,7 +60,7 @@ with-numbers r s z = kept (named s (layout (r .kind))) (r .numbers) z
 abbrev pub holding : ℕ → Told → ℕ → List ℕ → Collection
 holding k t h z = record { kind = k; told = t; held = h; numbers = z }
 
--- what is done with a part, by what the record layer says of it
+-- what is done with a part, from what the record layer says about it
 module _ (k : ℕ) (t : Told) (h s d : ℕ) (z o v : List ℕ) where
   joins-on : joined k o z ≡ v → drops t h s ≡ false →
       joins (holding k t h z) (record { groups = s; last = false; direction = d }) o (drops t h s) ≡
@@ -107,7 +107,7 @@ module _ (r : Sent) (s : ℕ) (sub : Sub s (1 + r .groups)) (payload : ℕ) (low
       collect (holding (r .kind) t h z) (part r s) ≡ record { said = waiting true; next = holding (r .kind) t g (with-numbers r s zeros) }
   renews e d = read-as false e ∙ joins-anew (r .kind) t h g (r .direction) z (part r s) (with-numbers r s zeros) (numbers-as zeros) d
 
-  -- the last
+  -- the last one
   pub ends : eqb (s % 2) 1 ≡ true → drops t h g ≡ false →
       collect (holding (r .kind) t h z) (part r s) ≡
       cond (incomplete t (bitOr h g)) (refuses (holding (r .kind) t h z) 34)

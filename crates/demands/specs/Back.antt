@@ -1,4 +1,4 @@
--- Demand 2 as running code: what comes back of a record that is split and collected.
+-- Demand 2 as running code: what comes back when a record is split and collected.
 use Prim.Native.Nat.{ℕ}
 use Rattle.record.specs.declared.record.Record.{Record}
 use Rattle.record.specs.Answer.{Answer, refused, given, provided}
@@ -14,7 +14,7 @@ abbrev pub meant-back : Back → Answer Record
 meant-back (answers.Record r) = given r
 meant-back (answers.Refused x) = refused (number-of x)
 
--- "Any well-formed record, split at any payload from 20 to 512 .. comes back equal"; what is not well formed, or another payload, is refused as the
--- splitter refuses it: 11, 12, 13
+-- "Any well-formed record, split at any payload from 20 to 512 .. comes back equal"; a record that is not well formed, or another payload, is
+-- refused as by the splitter: 11, 12, 13
 abbrev pub back-of : Record → ℕ → Answer Record
 back-of r payload = provided (known (r .kind)) 11 (provided (payload-known payload) 12 (provided (well-formed r) 13 (given r)))

@@ -17,13 +17,13 @@ pub record Splitter : Type 0 where
   pub answer : Record → ℕ → ℕ → List ℕ → Answer Extent
   pub left : Record → ℕ → ℕ → List ℕ → List ℕ
 
--- any collector: its states, how it is opened, and what it says to a notification and holds afterwards
+-- any collector: its states, how it is opened, and what it answers to a notification, with the state afterwards
 pub record Collector : Type 1 where
   pub State : Type 0
   pub opened : ℕ → Told → State
   pub step : State → List ℕ → Said × State
 
--- what a host lends
+-- the buffer that a host lends
 abbrev pub buffer : List ℕ
 buffer = replicate 512 0
 
@@ -35,7 +35,7 @@ abbrev pub parts-of : Answer Extent → ℕ
 parts-of (refused n) = 0
 parts-of (given e) = e .parts
 
--- n things, numbered from a number on
+-- a list of n elements, from a function of the numbers from `from` on
 unfoldable pub each : {A : Type 0} → ℕ → ℕ → (ℕ → A) → List A
 each from zero f = []
 each from (suc n) f = f from ∷ each (suc from) n f
@@ -50,7 +50,7 @@ module _ (s : Splitter) (payload : ℕ) (r : Record) where
   pieces = each 0 (parts-of (s .answer r payload 0 buffer)) piece
 
 module _ (c : Collector) where
-  -- what it says to those of the notifications that arrive, and its state after them
+  -- its answers to the notifications that arrive, and its state after them
   unfoldable pub heard : c .State → List (List ℕ) → List Bool → List Said × c .State
   heard state [] arrivals = ([], state)
   heard state (s ∷ ss) [] = ([], state)
@@ -60,7 +60,7 @@ module _ (c : Collector) where
       let rest : List Said × c .State = heard (now .1) ss arrivals in
       (now .0 ∷ rest .0, rest .1)
 
-  -- what it says where all arrive
+  -- its answers if all arrive
   unfoldable pub says : c .State → List (List ℕ) → List Said
   says state [] = []
   says state (s ∷ ss) =
@@ -75,7 +75,7 @@ pub record SplitsAsPromised (s : Splitter) : Type 0 where
   pub answers : (r : Record) (payload i : ℕ) (out : List ℕ) → s .answer r payload i out ≡ split-of r payload i (length out)
   pub leaves : (r : Record) (payload i : ℕ) (out : List ℕ) → s .left r payload i out ≡ lent-after r payload i out
 
--- a collector over the states of `service::collector`, by what a collection is opened with, what it says and what is next
+-- a collector with the states of `service::collector`, from what it opens, what it answers and the state that is next
 abbrev pub collector-of : (ℕ → Told → Collection) → (Collection → List ℕ → Said) → (Collection → List ℕ → Collection) → Collector
 collector-of opened said next = record { State = Collection; opened = opened; step = λ c s. (said c s, next c s) }
 

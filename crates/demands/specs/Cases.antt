@@ -19,15 +19,15 @@ pub data Case : Type 0 where
   parts : ℕ → ℕ → ℕ → ℕ → List ℕ → List (List ℕ) → Case
   -- a payload, and the refusal
   payload : ℕ → ℕ → Case
-  -- two octets and the s16, three and the u24
+  -- two octets and their s16, three octets and their u24
   s16 : List ℕ → ℤ → Case
   u24 : List ℕ → ℕ → Case
-  -- calls from opening, and the last answer
+  -- calls from opening on, and the answer to the last
   calls : Control.Case → Case
 
--- what a case says of splitting, reading numbers and calling. Of a row of the first table: for every well-formed record of the kind with these groups
--- and this direction, and whatever 512 octets or more are lent, `split` answers part by part with these lengths and as many parts; it has no further
--- part; and each time the lent octets begin with these flags
+-- what a case says about splitting, reading numbers and calling. A row of the first table says: for every well-formed record of the kind with these
+-- groups and this direction, and every lent buffer of 512 octets or more, `split` answers part by part with these lengths and this number of parts;
+-- there is no further part; and each time the lent octets begin with these flags
 abbrev pub Holds : Case → Type 0
 Holds (parts kind groups p direction lengths flags) =
     (listed kind ≡ groups) ×

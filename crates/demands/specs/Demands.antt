@@ -15,7 +15,7 @@ use Rattle.service.specs.declared.collector.Told.the-variants.{Open, Fixed}
 use Rattle.service.specs.Collector.{Said, waiting, handed, refused}
 use Rattle.demands.specs.Behaviour.{Splitter, Collector, pieces, heard, says}
 
--- a record that is well formed; each of its fields is a value of its type, as every record that runs is
+-- a record that is well formed, each of its fields a value of its type, as in every record at run time
 pub record Good (r : Record) : Type 0 where
   pub typed : Typed r
   pub formed : well-formed r ≡ true
@@ -51,7 +51,7 @@ Suits groups told = (told ≡ Open) ⊎ (told ≡ Fixed groups)
 -- ---- demand 2
 
 -- "The answer for part i, counted from 0, is its octets, its length and the number of parts; lent octets past the length stay.": every answer to a part
--- says how many there are, whatever is lent that has room for it; and the octets are "a flags field, then the groups named by its bits, in
+-- gives the number of parts, for every lent buffer that is large enough; and the octets are "a flags field, then the groups named by its bits, in
 -- ascending bit order, least octet first", by document 01's layouts.
 pub record Splits (s : Splitter) (payload : ℕ) (r : Record) : Type 0 where
   pub answers : (i : ℕ) → i < count r payload → (out : List ℕ) → length (part-octets r payload i) ≤ length out →
@@ -72,14 +72,14 @@ pub record Demand2 (s : Splitter) (c : Collector) : Type 0 where
 -- ---- demand 3
 
 -- nothing is handed out and nothing is refused. Demand 3 asks only that nothing is handed out at such a notification; this asks more, that it is
--- answered "waiting", which ours does: no part of a record of the told set is refused but the last.
+-- answered "waiting", as our collector does: of a record of the told set it refuses no part except the last.
 unfoldable pub Waits : List Said → Type 0
 Waits [] = Unit {0}
 Waits (waiting d ∷ said) = Waits said
 Waits (handed r d ∷ said) = ⊥
 Waits (refused n d ∷ said) = ⊥
 
--- the record is handed out; it is refused as incomplete
+-- the answer hands out the record; the answer refuses it as incomplete
 abbrev pub Hands : Record → Said → Type 0
 Hands r said = (d : Bool) × (said ≡ handed r d)
 
@@ -95,15 +95,15 @@ last-of [] = false
 last-of (b ∷ []) = b
 last-of (b ∷ b′ ∷ bs) = last-of (b′ ∷ bs)
 
--- of one record, with which of its parts arrived and what was said to those: "at each last notification that arrives, hands out exactly the
--- record it belongs to or refuses as incomplete; it hands it out whenever all k arrived; at no other notification does it hand out anything"
+-- for one record, which of its parts arrived and the answers to those: "at each last notification that arrives, hands out exactly the record it belongs
+-- to or refuses as incomplete; it hands it out whenever all k arrived; at no other notification does it hand out anything"
 abbrev pub Faithful : Record → List Bool → List Said → Type 0
 Faithful r bs said =
     (last-of bs ≡ false → Waits said) ×
     (last-of bs ≡ true →
     (before : List Said) × (final : Said) × (said ≡ before ++ (final ∷ [])) × Waits before × (Hands r final ⊎ Incomplete final) × (all-true bs ≡ true → Hands r final))
 
--- "never k or more in a row"; c are missing just before
+-- "never k or more in a row"; c notifications are missing just before
 unfoldable pub Gaps : ℕ → ℕ → List Bool → Type 0
 Gaps k c [] = Unit {0}
 Gaps k c (true ∷ bs) = Gaps k 0 bs
@@ -114,7 +114,7 @@ flat [] = []
 flat (b ∷ bs) = b ++ flat bs
 
 module _ (s : Splitter) (c : Collector) (payload : ℕ) where
-  -- one record after the other
+  -- the same for one record after the other
   unfoldable pub AllFaithful : c .State → List Record → List (List Bool) → Type 0
   AllFaithful state [] bs = Unit {0}
   AllFaithful state (r ∷ rs) [] = Unit {0}

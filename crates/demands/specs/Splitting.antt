@@ -24,14 +24,14 @@ row r p i n a = record { whole = r; payload = p; part = i; lent = n; answer = a 
 abbrev pub extent : ℕ → ℕ → Answer Extent
 extent n k = given (record { length = n; parts = k })
 
--- the numbers of the treadmill's sample, taken for a record of another kind, with other groups or another direction; and with another value
+-- the numbers of the treadmill's sample in a record of another kind, with other groups or another direction; and the sample with another value
 abbrev pub taken : ℕ → ℕ → ℕ → Record
 taken kind groups direction = of-wire kind groups direction (wire sample.treadmill)
 
 abbrev pub with-value : ℕ → ℕ → Record
 with-value f x = of-wire 1 0x1FFE 0 (set (wire sample.treadmill) f x)
 
--- all that can be wrong at once, with no octet lent; then with the first thing put right, and so on
+-- everything that can be wrong at once, with no octet lent; then with the first fault corrected, and so on
 abbrev pub order : List Row
 order =
     row (taken 0 0x3FFE 1) 19 2 0 (refused 11) ∷
@@ -72,14 +72,14 @@ formed =
     row (of-wire 2 0xFFFE 0 (wire sample.cross-trainer)) 20 0 512 (refused 13) ∷
     row (of-wire 6 0x0 0 (set (replicate 31 0) field.speed 7)) 20 0 4 (extent 4 1) ∷ []
 
--- what each is answered, and what it must be
+-- the answer to each row, and the expected answer
 abbrev pub answered : List Row → List (Answer Extent)
 answered rows = map (λ x. split-of (x .whole) (x .payload) (x .part) (x .lent)) rows
 
 abbrev pub expected : List Row → List (Answer Extent)
 expected rows = map (λ x. x .answer) rows
 
--- "A refusal writes no lent octet."; "lent octets past the length stay": 21 octets lent to the last of the treadmill's two parts, and 18, one too few
+-- "A refusal writes no lent octet."; "lent octets past the length stay": 21 octets lent for the last of the treadmill's two parts, and 18, one too few
 abbrev pub lent : ℕ → List ℕ
 lent n = replicate n 0xAA
 

@@ -21,13 +21,13 @@ ghost use Rattle.service.specs.Collector.{meant, collect as Collector·collect}
 ghost use Rattle.demands.specs.Back.{meant-back, back-of};
 ghost use Rattle.demands.specs.Demands.{Suits};
 
-// What comes back of a record that is split and collected: the record that was collected, or why there is none.
+// What comes back when a record is split and collected: the record that was collected, or the refusal.
 pub enum Back {
     Record(Record),
     Refused(Refusal),
 }
 
-// One part of a record, split off and handed to a collection.
+// Splits off one part of a record and hands it to a collection.
 fn deliver(record: Record, payload: usize, part: usize, collection: Collection) -> Step
     requires { ⌜ (well-formed «record» ≡ true) × (payload-known payload ≡ true) × (part < length (sets-of («record» .kind) («record» .groups) payload)) ⌝ }
     ensures { λ r. ⌜ meant (r .answer) ≡ Collector·collect collection (part-octets «record» payload part) .said ⌝ }
@@ -43,7 +43,7 @@ fn deliver(record: Record, payload: usize, part: usize, collection: Collection) 
     }
 }
 
-// Splits a record and collects its parts until one answers with a record, which is the same.
+// Splits a record and collects its parts until an answer is a record, which is the same record.
 fn collected(record: Record, payload: usize, told: Told) -> Back
     requires { ⌜ (well-formed «record» ≡ true) × (payload-known payload ≡ true) × Suits («record» .groups) told ⌝ }
     ensures { λ r. ⌜ meant-back r ≡ given «record» ⌝ }
@@ -74,7 +74,7 @@ fn collected(record: Record, payload: usize, told: Told) -> Back
     Back::Refused(Refusal::Incomplete)
 }
 
-// The same of any record and payload: 11, 12 and 13 as the splitter judges them.
+// The same for any record and payload, with the refusals 11, 12 and 13 as the splitter judges them.
 fn judged(record: Record, payload: usize, told: Told) -> Back
     requires { ⌜ Suits («record» .groups) told ⌝ }
     ensures { λ r. ⌜ meant-back r ≡ back-of «record» payload ⌝ }
@@ -86,14 +86,14 @@ fn judged(record: Record, payload: usize, told: Told) -> Back
     }
 }
 
-// What comes back of a record that is split at a payload and collected openly: the record, or 11, 12, 13.
+// What comes back when a record is split at a payload and collected openly: the record, or 11, 12, 13.
 pub fn comes_back(record: Record, payload: usize) -> Back
     ensures { λ r. ⌜ meant-back r ≡ back-of «record» payload ⌝ }
 {
     judged(record, payload, Told::Open)
 }
 
-// The same where the collection was told the record's set.
+// The same for a collection that was told the record's set.
 pub fn comes_back_told(record: Record, payload: usize) -> Back
     ensures { λ r. ⌜ meant-back r ≡ back-of «record» payload ⌝ }
 {

@@ -1,5 +1,5 @@
--- Reading what splitting wrote: at each kind, set, payload and part it gives the part's groups, whether it is the last, the direction, and
--- the part's numbers. Demands 2 and 3 are built from this.
+-- Reading what splitting wrote: for each kind, set, payload and part it gives the part's groups, whether it is the last, the direction,
+-- and the part's numbers. Demands 2 and 3 rest on this.
 use Prim.Native.Nat.{ℕ, suc, _+_, _%_, _<_, _≤_}
 use mathlib.Core.Path.{_≡_, refl, sym, ap, _∙_}
 use mathlib.Core.Bool.{true}
@@ -25,7 +25,7 @@ use Rattle.record.proofs.Records.{formed-facts}
 use Rattle.record.proofs.Parts.{part-again, values-again}
 use Rattle.record.proofs.Partition.{parts-of}
 
--- the octets that the splitter leaves at the front of what is lent are the part's
+-- the first octets of what the splitter leaves in the lent buffer are the part's
 pub front : (out octets : List ℕ) → take (length octets) (over out octets) ≡ octets
 front out octets = take-at octets (drop (length octets) out) (length octets) refl
 

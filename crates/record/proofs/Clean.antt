@@ -1,5 +1,5 @@
--- Numbers that hold the values of some groups and nothing else: each fits its width, and every other number is 0. Reading a part into such numbers leaves such
--- numbers, with the part's groups too.
+-- Numbers that hold the values of some groups and nothing else: each fits its width, and every other number is 0. Reading a part into such numbers gives such
+-- numbers again, for the part's groups as well.
 use Prim.Native.Nat.{ℕ, zero, suc, _+_, _^_, _<_}
 use mathlib.Core.Path.{_≡_, refl, sym, ap, _∙_}
 use mathlib.Core.Bool.{Bool, true, false, cond, not, _&&_, _||_, true≢false}
@@ -19,12 +19,12 @@ use Rattle.record.proofs.Tests.{Tested, passed, failed, tested, and-l, 
 use Rattle.record.proofs.Turns.{tests}
 use Rattle.record.proofs.ReadRows.{layout-distinct, named-distinct, fit-read}
 
--- a field stands in one of some rows
+-- whether a field is in one of the rows
 abbrev pub in-rows : ℕ → List Row → Bool
 in-rows f [] = false
 in-rows f (r ∷ rows) = eqb (r .1) f || in-rows f rows
 
--- the value of a row whose group is in a set fits
+-- whether the value of a row fits, if the row's group is in a set
 abbrev pub fine : ℕ → List ℕ → Row → Bool
 fine T v r = cond (has T (r .0)) (ltb (getD v (r .1) 0) (256 ^ octets-of (r .2))) true
 
@@ -49,7 +49,7 @@ or-false : (a b : Bool) → (a || b) ≡ false → (a ≡ false) × (b ≡ false
 or-false true b e = absurd (true≢false e)
 or-false false b e = (refl, e)
 
--- a row whose group is not in a set: no row of the set has its field
+-- if a row's group is not in a set, no row of the set has its field
 not-in : (N : ℕ) (r : Row) (rows : List Row) → all (agrees r) rows ≡ true → has N (r .0) ≡ false → in-rows (r .1) (named N rows) ≡ false
 unfolding named
 not-in N r [] e h = refl
@@ -65,7 +65,7 @@ not-in N r (q ∷ rows) e h = go (tested (has N (q .0))) (not-in N r rows (and-r
     go (passed g) i = rw (g, other-field (tested (eqb (q .1) (r .1))) g) i
     go (failed g) i = rw g i
 
--- more groups have more fields
+-- a field that is in no group of a set is in no group of a subset
 fewer : (N T : ℕ) (f : ℕ) (rows : List Row) → Sub N T → in-rows f (named T rows) ≡ false → in-rows f (named N rows) ≡ false
 unfolding named
 fewer N T f [] s e = refl
@@ -100,7 +100,7 @@ read-off (r ∷ rows) o z f e =
     let d : f ≡ r .1 → ⊥ = λ h. eqb-ne (r .1) f (p .0) (sym h) in
     read-off rows (drop (octets-of (r .2)) o) (set z (r .1) (number (octets-of (r .2)) o)) f (p .1) ∙ getD-set-other z (r .1) f (number (octets-of (r .2)) o) 0 d
 
--- that all named rows fit, said of each row
+-- that all named rows fit, as a test of each row
 fit-each : (T : ℕ) (v : List ℕ) (rows : List Row) → all-fit (named T rows) v ≡ all (fine T v) rows
 unfolding all-fit named
 fit-each T v [] = refl
@@ -110,7 +110,7 @@ fit-each T v (r ∷ rows) = go (fit-each T v rows) (has T (r .0))
     go rest true = ap (λ (x : Bool). ltb (getD v (r .1) 0) (256 ^ octets-of (r .2)) && x) rest
     go rest false = rest
 
--- what is read fits, what was there and is not read fits still
+-- what is read fits, and what was there and is not read still fits
 module _ (S N T : ℕ) (v w : List ℕ) (all-rows : List Row) (either : (b : ℕ) → has T b ≡ true → has N b ≡ false → has S b ≡ true)
     (stays : (r : Row) → all (agrees r) all-rows ≡ true → has N (r .0) ≡ false → getD w (r .1) 0 ≡ getD v (r .1) 0) where
   both-fit : (rows : List Row) → all (λ r. all (agrees r) all-rows) rows ≡ true → all (fine N w) rows ≡ true → all (fine S v) rows ≡ true → all (fine T w) rows ≡ true

@@ -1,4 +1,4 @@
--- How `cut` cuts: each part's groups lie below a bit, and what is left lies from that bit on.
+-- How `cut` cuts: each part's groups lie below a bit, and those that are left lie from it on.
 use Prim.Native.Nat.{ℕ, zero, suc, _+_, _*_, _-_, _/_, _%_, _^_, _<_, _≤_}
 use mathlib.Core.Path.{_≡_, _∙_}
 use mathlib.Core.List.{List, [], _∷_}
@@ -13,7 +13,7 @@ use Rattle.record.proofs.Tests.{passed, failed, tested, leb-le, leb-lt,
 use Rattle.record.proofs.Tables.{Sound}
 use Rattle.record.proofs.Runs.{longest-fits, longest-le, longest-ge}
 
--- a cut of the groups q * 2 ^ b, all of which stand at bit b or above
+-- a cut of the groups q * 2 ^ b, all of which are at bit b or above
 pub data Cuts (kind room : ℕ) : ℕ → ℕ → List ℕ → Type 0 where
   whole : {b q : ℕ} → set-length kind (1 + q * 2 ^ b) ≤ room → Cuts kind room b q ((1 + q * 2 ^ b) ∷ [])
   more : {b q : ℕ} {ss : List ℕ} (d : ℕ) → 0 < q % 2 ^ d → set-length kind (q % 2 ^ d * 2 ^ b) ≤ room →
@@ -36,7 +36,7 @@ both-parts q d b =
     rw (pow-add 2 d b, ← mul-assoc (q / 2 ^ d) (2 ^ d) (2 ^ b), ← add-mul (q / 2 ^ d * 2 ^ d) (q % 2 ^ d) (2 ^ b), split q d)
 
 module _ (kind room : ℕ) (s : Sound kind) (least : 17 ≤ room) where
-  -- groups that do not fit beside the main one: the lowest of them is in the first part
+  -- if groups do not fit together with the main one, the lowest of them is in the first part
   pub first-in : (set : ℕ) → set < 2 ^ 15 → room < set-length kind (1 + set) →
       (l : ℕ) × (suc l ≤ longest kind set room 15) × (set % 2 ^ suc l ≡ 2 ^ l)
   first-in set h f = elim (tested (eqb set 0)) [
@@ -50,7 +50,7 @@ module _ (kind room : ℕ) (s : Sound kind) (least : 17 ≤ room) where
         (low .0, longest-ge kind set room 15 (suc (low .0)) (low .1) (rw (low .2) (omega arith)), low .2)
   ]
 
-  -- so the first part ends above where the set begins, and is not empty
+  -- so the first part ends above the bit where the set begins, and is not empty
   pub first-above : (b q L l : ℕ) → suc l ≤ L → q * 2 ^ b % 2 ^ suc l ≡ 2 ^ l → b < L
   first-above b q L l h e = elim (tested (leb (suc l) b)) [
     | passed t ↦

@@ -32,7 +32,7 @@ divided-once {kind} {room} {left} (one-more n l f h k) (one-more {rest = rest} m
 
 -- ---- ours
 
--- a shorter run has no more
+-- a shorter run is no larger
 run-mono : (x a b : ℕ) → a ≤ b → x % 2 ^ a ≤ x % 2 ^ b
 run-mono x a b h =
     let i : (b - a) + a ≡ b = omega arith in
@@ -41,7 +41,7 @@ run-mono x a b h =
     let l : x % 2 ^ b % 2 ^ a ≤ x % 2 ^ b = mod-le (x % 2 ^ b) (2 ^ a) in omega arith
 
 module _ (kind room : ℕ) (s : Sound kind) (least : 17 ≤ room) where
-  -- no run that fits has more than the longest
+  -- no run that fits is larger than the longest
   run-most : (set m : ℕ) → set < 2 ^ 15 → set-length kind (set % 2 ^ m) ≤ room → set % 2 ^ m ≤ set % 2 ^ longest kind set room 15
   run-most set m h f = elim (tested (leb m 15)) [
     | passed t ↦ run-mono set m (longest kind set room 15) (longest-ge kind set room 15 m (leb-le m 15 t) f)
@@ -78,7 +78,7 @@ module _ (kind room : ℕ) (s : Sound kind) (least : 17 ≤ room) where
         rw e (one-more L f (longest-fits kind set room 15) (λ m t. run-most set m l t) (subst (λ (x : ℕ). Divided kind room x (cut kind room x n)) j rest))
   ]
 
--- the sets of the parts of a well-formed record are what the sentence says, and whatever it says are they
+-- the sets of a well-formed record's parts satisfy the sentence; by `divided-once` no others do
 pub divided : (kind groups direction : ℕ) (v : List ℕ) → Formed kind groups direction v → (payload : ℕ) → 20 ≤ payload →
     Divided kind (payload - flags-octets kind) groups (sets-of kind groups payload)
 divided kind groups direction v w payload least =

@@ -1,4 +1,4 @@
--- A Feature value is read as it was written and written as it was read, but for bits that have no name.
+-- A Feature value is read as it was written and written as it was read, except for unnamed bits.
 use Prim.Native.Nat.{ℕ, _+_, _*_, _/_, _%_, _^_, _<_}
 use mathlib.Core.Path.{_≡_, refl, sym, ap, _∙_}
 use mathlib.Core.Bool.{Bool, true, false, cond}
@@ -30,18 +30,18 @@ feature-again f =
     let q : number 4 b ≡ named-bits y = rw append-nil at (number-spelled 4 (named-bits y) [] (named-less y)) in
     rw (l, p, drop-at a b 4 (length-spelled 4 (named-bits x)), q, mod-mod x (2 ^ 17), mod-mod y (2 ^ 17))
 
--- what was read
+-- a value that was read: there were 8 octets, and it has their named bits
 read : (s : List ℕ) (f : Feature) (b : Bool) → _≡_ {A = Answer Feature} (cond b (given (named (words s))) (refused 22)) (given f) →
     (b ≡ true) × (named (words s) ≡ f)
 read s f true e = (refl, cc)
 read s f false e = absurd (let z : _≡_ {A = ℕ} 0 1 = cc in omega arith)
 
--- what was read, written
+-- writing what was read: the same as writing the two words
 rewritten : (s : List ℕ) (f : Feature) → feature-of s ≡ given f → feature-octets f ≡ feature-octets (words s)
 rewritten s f e =
     sym (ap feature-octets (read s f (eqb (length s) 8) e .1)) ∙ rw (mod-mod (number 4 s) (2 ^ 17), mod-mod (number 4 (drop 4 s)) (2 ^ 17))
 
--- four octets, with the bits above 16 of their number 0
+-- four octets, with the bits above 16 of their number cleared
 abbrev pub cleared : List ℕ → List ℕ
 cleared s = getD s 0 0 ∷ getD s 1 0 ∷ getD s 2 0 % 2 ∷ 0 ∷ []
 
@@ -65,13 +65,13 @@ word-cleared s h =
     omega (arith, h 0, h 1, number-step 3 0 s, number-step 2 1 s, number-step 1 2 s, number-one 0 s, number-one 1 s, number-one 2 s) in
     rw e (digits a b c (h 0) (h 1) (omega arith))
 
--- writing what was read: the same octets, with the bits that have no name 0
+-- writing what was read: the same octets, with the bits that have no name cleared
 pub octets-again : (s : List ℕ) (f : Feature) → ((i : ℕ) → getD s i 0 < 256) → feature-of s ≡ given f →
     feature-octets f ≡ cleared s ++ cleared (drop 4 s)
 octets-again s f h e =
     rewritten s f e ∙ rw (word-cleared s h, word-cleared (drop 4 s) (λ i. rw (getD-drop 4 s i 0) (h (4 + i))))
 
--- and the very same where both words have named bits only
+-- and exactly the same octets if both words have named bits only
 pub octets-same : (s : List ℕ) (f : Feature) → ((i : ℕ) → getD s i 0 < 256) →
     number 4 s < 2 ^ 17 → number 4 (drop 4 s) < 2 ^ 17 → feature-of s ≡ given f → feature-octets f ≡ s
 octets-same s f h k m e =

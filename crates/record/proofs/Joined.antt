@@ -1,5 +1,5 @@
--- A part that joins numbers that hold the values of some groups and nothing else: they hold the part's too, and with More Data 0 they are those of a
--- well-formed record.
+-- A part that joins numbers which hold the values of some groups and nothing else: they then hold the part's values too, and with More Data 0 they
+-- are the numbers of a well-formed record.
 use Prim.Native.Nat.{ℕ, zero, suc, _+_, _-_, _/_, _%_, _^_, _<_, _≤_, min}
 use mathlib.Core.Path.{_≡_, refl, sym, ap, _∙_, subst}
 use mathlib.Core.Bool.{Bool, true, false, cond, _||_, true≢false}
@@ -18,7 +18,7 @@ use Rattle.record.proofs.Parts.{listed-even, with-main, sub-suc}
 use Rattle.record.proofs.Sets.{Sub, sub-trans, sub-same, sub-or, sub-or-l, sub-or-r, and-of-sub, has-or, has-and, has-zero, has-half, lowest-and, lowest-or}
 use Rattle.record.proofs.Tests.{and-r, eqb-true, leb-true}
 
--- the optional groups of a set that lies in some even groups and the main one
+-- if a set lies in some optional groups and the main one, its optional groups lie in those
 opt-sub : (n a : ℕ) → a % 2 ≡ 0 → Sub n (1 + a) → Sub (optional n) a
 opt-sub n a e s = record { member = go }
   where
@@ -67,7 +67,7 @@ module _ (kind : ℕ) (k : known kind ≡ true) (s : List ℕ) (octets : (i : �
       let m : min x 1 ≡ x = omega arith in
       lowest-and (turned flags) (1 + listed kind) ∙ rw (t, u) m
 
-  -- what is held once the part has joined, over numbers that hold S
+  -- what is held once the part has joined numbers that hold the groups S
   module _ (S : ℕ) (v : List ℕ) (e : S % 2 ≡ 0) (inside : Sub S (listed kind)) (c : Clean kind S v) where
     abbrev held : ℕ
     held = bitOr S (optional N)
@@ -78,7 +78,7 @@ module _ (kind : ℕ) (k : known kind ≡ true) (s : List ℕ) (octets : (i : �
     pub held-listed : Sub held (listed kind)
     held-listed = sub-or inside groups-listed
 
-    -- with More Data 1
+    -- with More Data 1 the numbers hold the groups held and nothing else
     pub clean-waiting : flags % 2 ≡ 1 → Clean kind held (joined kind s v)
     unfolding values
     clean-waiting m =
@@ -88,7 +88,7 @@ module _ (kind : ℕ) (k : known kind ≡ true) (s : List ℕ) (octets : (i : �
         subst (λ (g : ℕ). Clean kind (bitOr S g) (read-into (named N (layout kind)) (drop (flags-octets kind) s) v)) (sym o)
         (clean-read kind S N (bitOr S N) v (drop (flags-octets kind) s) c (sub-or-l S N) (sub-or-r S N) (λ b h n. or-either S N b h n) body-octets)
 
-    -- with More Data 0
+    -- with More Data 0 they hold the main group too
     clean-last : flags % 2 ≡ 0 → Clean kind (1 + held) (joined kind s v)
     unfolding values
     clean-last m =

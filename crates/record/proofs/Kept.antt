@@ -1,4 +1,4 @@
--- Rows written and read back; and what stands among a record's numbers once rows are kept.
+-- Rows written and read back; and which numbers a record has once rows are kept.
 use Prim.Native.Nat.{ℕ, _^_, _<_}
 use mathlib.Core.Path.{_≡_, refl, sym, ap, _∙_}
 use mathlib.Core.Bool.{Bool, true, false, cond, _||_, true≢false}
@@ -34,7 +34,7 @@ read-written (r ∷ rows) v rest z h =
     )
     (read-written rows v rest (set z (r .1) x) (and-r (ltb x (256 ^ n)) (all-fit rows v) h))
 
--- one field takes the record's number
+-- numbers that take one field's number from the record
 put : List ℕ → ℕ → List ℕ → List ℕ
 put v i z = set z i (getD v i 0)
 
@@ -76,7 +76,7 @@ module _ (r : Row) (o a b : List Row) (v : List ℕ) (ih : (z : List ℕ) → ke
       kept-cons r o v z ∙ ih (put v (r .1) z) ∙ ap (kept b v) (kept-put a v (r .1) z) ∙ sym (kept-cons r b v (kept a v z))
   kept-step false false z = ih z
 
--- the rows of two sets together, in whatever order
+-- the rows of two sets together: those of one, then those of the other
 pub kept-or : (a b : ℕ) (rows : List Row) (v z : List ℕ) → kept (named (bitOr a b) rows) v z ≡ kept (named b rows) v (kept (named a rows) v z)
 kept-or a b [] v z = unfold kept named in refl
 kept-or a b (r ∷ rows) v z = either a b r rows v z (kept-or a b rows v)

@@ -1,4 +1,4 @@
--- Laws of octets: read and written one more at a time, for every number of them; numbers and their octets are inverse; so are signed and unsigned.
+-- Laws of octets, for any number of them: reading and writing one octet more; reading and writing are inverse; so are `signed` and `unsigned`.
 use Prim.Native.Nat.{ℕ, zero, suc, _+_, _*_, _-_, _/_, _%_, _^_, _≤_, _<_}
 use mathlib.Core.Path.{_≡_, refl, ap, _∙_}
 use mathlib.Core.Bool.{true, false, true≢false}
@@ -23,7 +23,7 @@ unfolding number
 number-nil zero = refl
 number-nil (suc n) = refl
 
--- no octets from the end on
+-- octets past the end read as 0
 pub number-past : (n : ℕ) {at : ℕ} (s : List ℕ) → length s ≤ at → number n (drop at s) ≡ 0
 number-past n s h = rw (drop-of-length-le s h) (number-nil n)
 
@@ -41,7 +41,7 @@ number-next n zero (b ∷ s) = omega arith
 number-next n (suc at) [] = let e : number n [] ≡ 0 = number-nil n in omega arith
 number-next n (suc at) (b ∷ s) = number-next n at s
 
--- one octet more to read
+-- reading one octet more
 pub number-step : (n at : ℕ) (s : List ℕ) → number (suc n) (drop at s) ≡ number 1 (drop at s) + 256 * number n (drop (at + 1) s)
 number-step n at s = rw (add-one at) (number-next n at s)
 
@@ -55,7 +55,7 @@ number-below (suc n) (b ∷ s) h =
     let q : b < 256 = h 0 in
     rw (pow-suc 256 n) (omega arith)
 
--- the same of a slice's octets, from a place on
+-- the same for a slice's octets, from an index on
 pub octets-below : (n at : ℕ) (s : List ℕ) → ((i : ℕ) → Fits w8 (getD s i 0)) → number n (drop at s) < 256 ^ n
 octets-below n at s h = number-below n (drop at s) (λ i. rw (getD-drop at s i 0) (h (at + i) .fits))
 
@@ -83,7 +83,7 @@ spelled-number (suc n) (b ∷ s) l h =
     let high : (b + 256 * m) / 256 ≡ m = omega arith in
     rw (low, high) (ap (λ (r : List ℕ). b ∷ r) (spelled-number n s (omega arith) (λ i k. h (suc i) (omega arith))))
 
--- what is past n octets is not spelled in n octets
+-- the n low octets of a number do not depend on the higher ones
 pub spelled-low : (n x : ℕ) → spelled n (x % 256 ^ n) ≡ spelled n x
 unfolding spelled
 spelled-low zero x = refl
@@ -99,18 +99,18 @@ placed-append out at [] b = rw (add-zero at)
 placed-append out at (x ∷ a) b =
     let e : at + suc (length a) ≡ suc at + length a = omega arith in rw e (placed-append (set out at x) (suc at) a b)
 
--- one octet to write
+-- writing one octet
 pub placed-one : (x : ℕ) (out : List ℕ) (at : ℕ) → x < 256 → set out at x ≡ placed out at (spelled 1 x)
 unfolding spelled
 placed-one x out at h = let e : x % 256 ≡ x = omega arith in rw e
 
--- one octet more to write: the low one, then the rest behind it
+-- writing one octet more: the low one, then the rest after it
 pub placed-step : (n x : ℕ) (out : List ℕ) (at : ℕ) {mid all : List ℕ} → mid ≡ placed out at (spelled 1 (x % 256)) →
     all ≡ placed mid (at + 1) (spelled n (x / 256)) → all ≡ placed out at (spelled (suc n) x)
 unfolding spelled
 placed-step n x out at p q = let e : x % 256 % 256 ≡ x % 256 = omega arith in rw (q, p, add-one at, e)
 
--- nothing is written from the end on
+-- nothing is written past the end
 pub placed-past : (octets out : List ℕ) {at : ℕ} → length out ≤ at → placed out at octets ≡ out
 placed-past [] out h = refl
 placed-past (x ∷ octets) out {at} h = rw (set-out out at x h) (placed-past octets out (omega arith))
@@ -120,7 +120,7 @@ placed-over out octets h =
     let e : 0 + length octets ≡ length octets = zero-add (length octets) in
     sets-eq octets out 0 (omega arith) ∙ rw e
 
--- two runs of octets that fill what was lent
+-- two runs of octets that fill the lent buffer
 pub placed-full : (out a b : List ℕ) (n m : ℕ) → length a ≡ n → length b ≡ m → length out ≡ n + m → placed (placed out 0 a) n b ≡ a ++ b
 placed-full out a b n m e h k =
     let l : length (a ++ b) ≡ length out = length-append a b ∙ omega arith in
@@ -151,20 +151,20 @@ minus-one-less k =
     let e : suc k - 1 ≡ k = omega arith in
     rw (le-ltb (suc k) 1 h, e)
 
--- of bits from 32,768 on: -1 less what they lack of 65,535 fits, and is the number that they mean
+-- for bits n of 32,768 or more: -1 - (65,535 - n) fits, and is the number that they mean
 pub below : (n : ℕ) → 32768 ≤ n → n < 65536 → SFits w16 (negsuc 0 -ℤ signed (65535 - n)) × (negsuc 0 -ℤ signed (65535 - n) ≡ signed n)
 below n h k =
     let m : ℕ = 65535 - n in
     let e : 65536 - suc n ≡ m = omega arith in
     rw (toZ-pos w16 {n = m} (omega arith), minus-one m, le-ltb n 32768 h, e) (record { sfits = omega arith }, refl)
 
--- what the code asks of a number that is not negative
+-- what the code needs of a number that is not negative
 pub plain : (z : ℤ) → SFits w16 z → ltZ (signed (unsigned z)) (pos 0) ≡ false →
     (T (nonNeg (signed (unsigned z))) × Fits w16 (natAbs (signed (unsigned z)))) × (natAbs (signed (unsigned z)) ≡ unsigned z)
 plain (pos n) f t = rw (toZ-pos w16 {n = n} (f .sfits)) ((tt, record { fits = omega (arith, f .sfits) }), refl)
 plain (negsuc n) f t = absurd (true≢false (rw (toZ-neg w16 n (f .sfits)) at t))
 
--- what the code asks of d, -1 less a negative number: it fits, it is not negative, and 65,535 less d is the number's bits
+-- what the code needs of d = -1 - z for a negative z: it fits, it is not negative, and 65,535 - d is the bits of z
 abbrev Turned : ℤ → ℤ → Type 0
 Turned z d =
     SFits w16 d × ((T (nonNeg (signed (unsigned d))) × Fits w16 (natAbs (signed (unsigned d)))) ×

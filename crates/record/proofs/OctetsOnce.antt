@@ -17,7 +17,7 @@ use Rattle.record.proofs.octets.unsigned.Reads as octets-unsigned
 use Rattle.record.proofs.refusal.Refusal.number.Reads as refusal-number
 use Rattle.record.proofs.Once.{Once, same, Variant, with-value, with-refusal, by-meaning}
 
--- the meaning of an answer is the answer
+-- an answer is determined by its meaning
 feature-variant : (x : FeatureAnswer) → Variant feature-answers.Feature feature-answers.Refused x
 feature-variant (feature-answers.Feature a) = with-value a refl
 feature-variant (feature-answers.Refused r) = with-refusal r refl

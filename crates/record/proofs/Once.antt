@@ -1,4 +1,4 @@
--- No second reply: what that means of a contract, and why the meaning of an answer is the answer.
+-- No second reply: what it means for a contract, and why an answer is known by its meaning.
 use Prim.Native.Nat.{ℕ}
 use mathlib.Core.Path.{_≡_, sym, ap, _∙_}
 use native.Mathlib.Omega.{arith}
@@ -8,11 +8,11 @@ use Rattle.record.specs.Refusal.{number-of}
 use Rattle.record.proofs.RefusalLaws.{number-once}
 
 module _ {K : Type 0} {A R S : K → Type 0} (Post : (κs : K) → A κs → R κs → S κs → Type 0) where
-  -- two replies that meet a contract at the same arguments are one
+  -- two replies that meet a contract at the same arguments are equal
   abbrev pub Once : Type 0
   Once = (κs : K) (a : A κs) (x y : R κs) (s t : S κs) → Post κs a x s → Post κs a y t → x ≡ y
 
-  -- and so are the two things that are left where something was lent
+  -- and so are the two contents that are left in what was lent
   abbrev pub LeftOnce : {B : Type 0} → ((κs : K) → S κs → B) → Type 0
   LeftOnce lent = (κs : K) (a : A κs) (x y : R κs) (s t : S κs) → Post κs a x s → Post κs a y t → lent κs s ≡ lent κs t
 

@@ -1,4 +1,4 @@
--- The sets into which `cut` cuts a record's groups are what `PartsOf` says.
+-- The sets into which `cut` cuts a record's groups satisfy `PartsOf`.
 use Prim.Native.Nat.{ℕ, zero, suc, _+_, _*_, _-_, _/_, _%_, _^_, _<_, _≤_, suc-le-suc}
 use mathlib.Core.Path.{_≡_, refl, sym, ap, _∙_}
 use mathlib.Core.Bool.{Bool, true, false, _||_, true≢false}
@@ -22,7 +22,7 @@ use Rattle.record.proofs.Parts.{with-main, sub-main, sub-suc, the-sound
 
 -- ---- bits of shifted sets
 
--- a bit of a set that a number bounds
+-- a set below 2 ^ k has bits below k only
 bit-below : (a k x : ℕ) → a < 2 ^ k → has a x ≡ true → x < k
 bit-below a k x h e = elim (tested (leb k x)) [
   | passed t ↦
@@ -31,7 +31,7 @@ bit-below a k x h e = elim (tested (leb k x)) [
   | failed t ↦ leb-lt k x t
 ]
 
--- a bit of a set that stands at a bit or above
+-- a set shifted up to bit b has bits from b on only
 pub bit-above : (q b x : ℕ) → has (q * 2 ^ b) x ≡ true → b ≤ x
 bit-above q b x e = elim (tested (leb b x)) [
   | passed t ↦ leb-le b x t
@@ -92,7 +92,7 @@ record From (kind room b q : ℕ) (sets : List ℕ) : Type 0 where
 nowhere : {A : Type 0} (x : ℕ) → has 0 x ≡ true → A
 nowhere x e = absurd (true≢false (sym e ∙ has-empty x))
 
--- a set alone
+-- a single set: the last part
 module _ (kind room b q : ℕ) (l : 1 ≤ b) (f : set-length kind (1 + q * 2 ^ b) ≤ room) where
   abbrev one : List ℕ
   one = (1 + q * 2 ^ b) ∷ []
@@ -130,7 +130,7 @@ module _ (kind room b q : ℕ) (l : 1 ≤ b) (f : set-length kind (1 + q * 2 ^ b
     fit = whole-fit;
   }
 
--- a run, and more behind it
+-- a run, and more sets after it
 module _ (kind room b q d : ℕ) (rest : List ℕ) (l : 1 ≤ b) (p : 0 < q % 2 ^ d) (f : set-length kind (q % 2 ^ d * 2 ^ b) ≤ room)
     (ih : From kind room (d + b) (q / 2 ^ d) rest) where
   abbrev run : ℕ
@@ -202,7 +202,7 @@ from-cuts : {kind room b q : ℕ} {sets : List ℕ} → 1 ≤ b → Cuts kind ro
 from-cuts {kind} {room} l (whole {b} {q} f) = from-whole kind room b q l f
 from-cuts {kind} {room} l (more {b} {q} {ss} d p f rest) = from-more kind room b q d ss l p f (from-cuts (omega arith) rest)
 
--- the sets of the parts of a well-formed record
+-- the sets of a well-formed record's parts satisfy `PartsOf`
 pub parts-of : (kind groups direction : ℕ) (v : List ℕ) → Formed kind groups direction v → (payload : ℕ) → 20 ≤ payload →
     PartsOf kind groups payload (sets-of kind groups payload)
 parts-of kind groups direction v w payload least =

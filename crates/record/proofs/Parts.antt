@@ -1,4 +1,4 @@
--- A part of a well-formed record, read again.
+-- A part of a well-formed record, read back.
 use Prim.Native.Nat.{ℕ, zero, suc, _+_, _*_, _-_, _/_, _%_, _^_, _<_, _≤_, min}
 use mathlib.Core.Path.{_≡_, refl, sym, ap, ap₂, _∙_}
 use mathlib.Core.Bool.{true}
@@ -25,7 +25,7 @@ use Rattle.record.proofs.Tables.{Sound, sound, flags-least, listed-belo
 use Rattle.record.proofs.Writing.{length-written}
 use Rattle.record.proofs.Kept.{read-written, fit-sub}
 
--- a set with the main group
+-- adding the main group to a set
 pub with-main : (g : ℕ) → g % 2 ≡ 0 → bitOr g 1 ≡ 1 + g
 with-main g h =
     let e : g ≡ g / 2 * 2 = omega arith in
@@ -148,7 +148,7 @@ module _ (kind groups direction : ℕ) (v : List ℕ) (w : Formed kind groups di
         drop-at (spelled (flags-octets kind) (flags s direction)) (written (named s (layout kind)) v) (flags-octets kind)
         (length-spelled (flags-octets kind) (flags s direction))
 
-    -- what it says of itself: its groups, whether it is the last, its direction
+    -- what its flags say: its groups, whether it is the last, its direction
     pub part-again : flags-octets kind + set-length kind s ≤ 512 →
         part-of kind (octets kind s direction v) ≡ given (record { groups = optional s; last = eqb (s % 2) 1; direction = direction })
     unfolding part-of

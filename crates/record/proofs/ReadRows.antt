@@ -1,4 +1,4 @@
--- The numbers that reading leaves: each field stands in one row of a kind, so that what is read fits its width and nothing else is touched.
+-- The numbers after reading: each field is in one row of a kind, so that what is read fits its width and no other number changes.
 use Prim.Native.Nat.{ℕ, _+_, _^_, _<_}
 use mathlib.Core.Path.{_≡_, refl, sym, _∙_}
 use mathlib.Core.Bool.{Bool, true, false, cond, not, _&&_}
@@ -17,7 +17,7 @@ use Rattle.record.specs.Record.{all-fit}
 use Rattle.record.proofs.OctetLaws.{number-below}
 use Rattle.record.proofs.Tests.{and-l, and-r, eqb-ne, all, all-at}
 
--- a row of another field
+-- whether a row is of another field
 abbrev pub other : ℕ → Row → Bool
 other f r = not (eqb f (r .1))
 
@@ -60,7 +60,7 @@ apart f r rows e = (λ h. eqb-ne f (r .1) (not-so (eqb f (r .1)) (and-l (other f
     not-so true h = sym h
     not-so false h = refl
 
--- a field of no row stays
+-- the number of a field that is in no row stays
 read-apart : (rows : List Row) (s z : List ℕ) (f : ℕ) → all (other f) rows ≡ true → getD (read-into rows s z) f 0 ≡ getD z f 0
 unfolding read-into
 read-apart [] s z f e = refl

@@ -23,7 +23,7 @@ module _ (r : Row) (rest : List Row) (s : List ℕ) (at : ℕ) (v : List ℕ) wh
       ap (λ (l : List ℕ). read-into rest l (set v (r .1) (number (octets-of (r .2)) (drop at s)))) (drop-drop (octets-of (r .2)) at s)
   read-row false = rw (add-zero at)
 
--- what is left to read from row i on, and from the next
+-- reading row i, then the rows after it
 pub read-next : (among : ℕ) (rows : List Row) (i : ℕ) (r : Row) (s : List ℕ) (at : ℕ) (v : List ℕ) → r ≡ getD rows i no-row → i < length rows →
     read-into (named among (drop (i + 1) rows)) (drop (at + cond (has among (r .0)) (octets-of (r .2)) 0) s)
     (cond (has among (r .0)) (set v (r .1) (number (octets-of (r .2)) (drop at s))) v) ≡
@@ -43,7 +43,7 @@ pub read-none : (among : ℕ) (rows : List Row) (s v : List ℕ) → rows ≡ []
 unfolding read-into named
 read-none among rows s v e = rw e
 
--- the place stays within three octets a row
+-- each row takes at most three octets
 pub taken-most : (h : Bool) (n at i : ℕ) → n ≤ 3 → at ≤ 3 + 3 * i → at + cond h n 0 ≤ 3 + 3 * (i + 1)
 taken-most true n at i w l = omega arith
 taken-most false n at i w l = omega arith

@@ -1,5 +1,5 @@
--- No second reply meets a contract: for each public function of the crate, over the contract itself; and for a function that is lent
--- something, no second content is left there.
+-- No second reply meets a contract: for each public function of the crate, on its own contract; and a function that is lent
+-- something leaves no second content there.
 use mathlib.Core.Path.{_≡_, refl}
 use denote.Ref.{now}
 use Rattle.record.specs.declared.notification.PartAnswer.{PartAnswer}
@@ -15,7 +15,7 @@ use Rattle.record.proofs.split.split.Reads as split-split
 use Rattle.record.proofs.split.split_numbers.Reads as split-numbers
 use Rattle.record.proofs.Once.{Once, LeftOnce, same, Variant, with-value, with-refusal, by-meaning}
 
--- the meaning of an answer is the answer
+-- an answer is determined by its meaning
 part-variant : (x : PartAnswer) → Variant part-answers.Part part-answers.Refused x
 part-variant (part-answers.Part a) = with-value a refl
 part-variant (part-answers.Refused r) = with-refusal r refl

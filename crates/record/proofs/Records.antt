@@ -1,4 +1,4 @@
--- Records taken to wire numbers and back, and what the tests of a well-formed record say.
+-- Records converted to wire numbers and back, and what the tests of `formed` say.
 use Prim.Native.Nat.{ℕ, zero, suc, _+_, _%_, _^_, _<_, _≤_}
 use mathlib.Core.Path.{_≡_, refl, sym, ap, _∙_}
 use mathlib.Core.Bool.{Bool, true, false, cond, _&&_, true≢false}
@@ -42,7 +42,7 @@ number-within (a ∷ bs) [] j {b} h e = pow-pos (suc b)
 number-within (a ∷ bs) (x ∷ v) zero h e = rw e at (ltb-true x (2 ^ a) (and-l (ltb x (2 ^ a)) (bits-within bs v) h))
 number-within (a ∷ bs) (x ∷ v) (suc j) h e = number-within bs v j (and-r (ltb x (2 ^ a)) (bits-within bs v) h) e
 
--- the n numbers of a list from a place on, one by one
+-- the n numbers of a list from an index on, one by one
 abbrev from : ℕ → ℕ → List ℕ → List ℕ
 from zero i v = []
 from (suc n) i v = getD v i 0 ∷ from n (suc i) v
@@ -57,7 +57,7 @@ from-start zero (x ∷ v) e = absurd (omega arith)
 from-start (suc n) [] e = absurd (omega arith)
 from-start (suc n) (x ∷ v) e = ap (λ (l : List ℕ). x ∷ l) (from-next n 0 x v ∙ from-start n v (omega arith))
 
--- a number that fits its field's type is not cut
+-- a number that fits its field's type is not truncated
 module _ (v : List ℕ) (h : in-types v ≡ true) where
   cut : (j : ℕ) {b : ℕ} → getD type-bits j 0 ≡ suc b → getD v j 0 % 2 ^ suc b ≡ getD v j 0
   cut j e = mod-eq-of-lt (number-within type-bits v j h e)
@@ -108,7 +108,7 @@ module _ (r : Record) (t : Typed r) where
 
 -- ---- the numbers of rows, kept over others
 
--- two stores of two lists' numbers, in either order
+-- two numbers stored at two indices, in either order
 set-swap : (a : ℕ → ℕ) (i j : ℕ) (z : List ℕ) → set (set z i (a i)) j (a j) ≡ set (set z j (a j)) i (a i)
 set-swap a i j z = elim (tested (eqb i j)) [
   | passed e ↦ rw (eqb-eq i j e)

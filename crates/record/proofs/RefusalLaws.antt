@@ -1,4 +1,4 @@
--- No two refusals have one number.
+-- No two refusals have the same number.
 use Prim.Native.Nat.{ℕ, _-_}
 use mathlib.Core.Path.{_≡_, refl, sym, ap, _∙_}
 use mathlib.Core.Bool.{cond}
@@ -21,7 +21,7 @@ thirties =
     NotificationTooLong ∷ ShorterThanFlags ∷ ShorterThanGroups ∷ OutsideToldSet ∷
     Incomplete ∷ ToldSetUnlisted ∷ CaptureTooLong ∷ CaptureCutShort ∷ []
 
--- the refusal of a number; any, of a number that has none
+-- the refusal with a number; any, if there is none
 pub of-number : ℕ → Refusal
 of-number n = cond (ltb n 30) (getD tens (n - 10) ClientAboveThree) (getD thirties (n - 30) ClientAboveThree)
 

@@ -1,4 +1,4 @@
--- Rows by their bits: which of them a set names, and the octets that they take.
+-- Rows by their bits: which of them a set names, and how many octets they take.
 use Prim.Native.Nat.{ℕ, suc, _+_, _%_, _^_, _<_, _≤_, zero-le}
 use mathlib.Core.Path.{_≡_, refl, sym, ap, _∙_}
 use mathlib.Core.Bool.{Bool, true, false, cond, _&&_}
@@ -11,7 +11,7 @@ use Rattle.record.specs.Groups.{has, named, size, groups-of}
 use Rattle.record.proofs.Sets.{has-empty, has-power, has-own, has-low, has-high, same-bit, add-bit}
 use Rattle.record.proofs.Tests.{passed, failed, tested, eqb-eq, eqb-ne, and-l, and-r, leb-le}
 
--- the bits of all rows are below a number
+-- whether the bits of all rows are below a number
 abbrev pub below : ℕ → List Row → Bool
 below n [] = true
 below n (r ∷ rows) = ltb (r .0) n && below n rows
@@ -79,7 +79,7 @@ size-next (r ∷ rows) set b = elim (tested (eqb (r .0) b)) [
   | failed e ↦ at-other r rows set b (size-next rows set b) (eqb-ne (r .0) b e)
 ]
 
--- the rows of a set take no more than all
+-- the rows of a set take no more octets than all rows
 pub size-named : (rows : List Row) (set : ℕ) → size (named set rows) ≤ size rows
 unfolding size named
 size-named [] set = zero-le
@@ -89,7 +89,7 @@ size-named (r ∷ rows) set = some (has set (r .0)) (size-named rows set)
     some true e = omega arith
     some false e = omega arith
 
--- all the groups of rows whose bits are below a number
+-- if the bits of all rows are below n, a set's bits from n on name none
 pub named-low : (rows : List Row) (set n : ℕ) → below n rows ≡ true → named (set % 2 ^ n) rows ≡ named set rows
 unfolding named
 named-low [] set n e = refl
@@ -97,12 +97,12 @@ named-low (r ∷ rows) set n e =
     let l : r .0 < n = leb-le (suc (r .0)) n (and-l (ltb (r .0) n) (below n rows) e) in
     rw (has-low set n (r .0) l, named-low rows set n (and-r (ltb (r .0) n) (below n rows) e))
 
--- a set gains a bit below a number
+-- a set below 2 ^ n stays below it when it gains a bit below n
 gained : (b : Bool) (set i n : ℕ) → b ≡ has set i → set < 2 ^ n → i < n → cond b set (set + 2 ^ i) < 2 ^ n
 gained true set i n e h l = h
 gained false set i n e h l = add-bit set i n (sym e) h l
 
--- the set of the groups of rows whose bits are below a number
+-- if the bits of all rows are below n, the set of their groups is below 2 ^ n
 pub groups-below : (rows : List Row) (n : ℕ) → below n rows ≡ true → groups-of rows < 2 ^ n
 unfolding groups-of
 groups-below [] n e = pow-pos n

@@ -1,4 +1,4 @@
--- The longest run: where the code's upward walk stops is the highest bit below which the groups fit.
+-- The longest run: the code's loop stops at the highest bit below which the groups fit.
 use Prim.Native.Nat.{ℕ, zero, suc, _+_, _-_, _%_, _^_, _<_, _≤_, zero-le}
 use mathlib.Core.Path.{_≡_}
 use mathlib.Core.Bool.{false}
@@ -44,7 +44,7 @@ module _ (kind set room : ℕ) where
         | failed i ↦ let d : e ≡ suc n → ⊥ = eqb-ne e (suc n) i in omega arith
       ]
 
-  -- the groups below a bit fit, and with the bit's they do not: the run ends there
+  -- the groups below a bit fit, and with the bit's group they do not: the run ends there
   pub run-stops : (b : ℕ) → b < 15 → set-length kind (set % 2 ^ b) ≤ room → room < set-length kind (set % 2 ^ (b + 1)) → set % 2 ^ b ≡ run kind room set
   run-stops b h k l =
       let low : b ≤ longest kind set room 15 = longest-ge 15 b (omega arith) k in
@@ -59,7 +59,7 @@ module _ (kind set room : ℕ) where
       ] in
       rw e
 
-  -- all fit
+  -- all groups fit: the run is all of them
   pub run-whole : set-length kind (set % 2 ^ 15) ≤ room → set % 2 ^ 15 ≡ run kind room set
   run-whole k =
       let a : 15 ≤ longest kind set room 15 = longest-ge 15 15 (omega arith) k in

@@ -87,7 +87,7 @@ and-right x y e h = sym (rw h) ∙ e ∙ h
 pub sub-of-and : (a b : ℕ) → bitAnd a b ≡ a → Sub a b
 sub-of-and a b e = record { member = λ i h. and-right (has a i) (has b i) (sym (has-and a b i) ∙ ap (λ (x : ℕ). has x i) e) h }
 
--- a set's first bit, and the others one lower
+-- a set's bit 0, and its other bits, one lower in a / 2
 pub has-zero : (a : ℕ) → has a 0 ≡ eqb (a % 2) 1
 unfolding has
 has-zero a = rw div-one
@@ -132,7 +132,7 @@ pub has-empty : (i : ℕ) → has 0 i ≡ false
 unfolding has
 has-empty i = rw (zero-div (2 ^ i))
 
--- a remainder by a power of two, by its lowest digit
+-- a remainder by a power of two: its lowest digit, and the rest
 pub mod-digit : (a k : ℕ) → a % 2 ^ suc k ≡ a / 2 % 2 ^ k * 2 + a % 2
 mod-digit a k = rw (pow-suc 2 k) (mod-mul a (pow-pos k) (zero-lt-suc 1))
 
@@ -151,16 +151,14 @@ low-bit (suc m) a h k = elim (tested (eqb (a % 2) 1)) [
       (suc (ih .0), suc-le-suc (ih .1), low-next a (ih .0) (omega arith) (ih .2))
 ]
 
--- a set has no bit that its number does not reach
+-- a set below 2 ^ i does not have bit i
 pub has-above : (a i : ℕ) → a < 2 ^ i → has a i ≡ false
 unfolding has
 has-above a i h = rw (div-eq-of-lt h)
 
--- ---- tests joined
-
 -- ---- bits of a set below a bit
 
--- a bit of the rest below a bit
+-- the remainder by 2 ^ k has the bits of a set below k
 pub has-low : (a k i : ℕ) → i < k → has (a % 2 ^ k) i ≡ has a i
 unfolding has
 has-low a k i h =
@@ -172,11 +170,11 @@ has-low a k i h =
     let n : a / 2 ^ i % 2 ^ suc (k - suc i) % 2 ≡ a / 2 ^ i % 2 = ap (λ (x : ℕ). a / 2 ^ i % 2 ^ x % 2) (sym s) ∙ m in
     rw (g, n)
 
--- and none from the bit on
+-- and none from k on
 pub has-high : (a k i : ℕ) → k ≤ i → has (a % 2 ^ k) i ≡ false
 has-high a k i h = has-above (a % 2 ^ k) i (le-trans (mod-lt a (pow-pos k)) (pow-mono h))
 
--- a set of one bit has that one
+-- a set of one bit has that bit
 pub has-own : (b : ℕ) → has (2 ^ b) b ≡ true
 unfolding has
 has-own b = rw (div-self (pow-pos b))
@@ -192,7 +190,7 @@ has-power b i n = elim (tested (leb (suc b) i)) [
       sym (has-low (2 ^ b) (suc i) i (omega arith)) ∙ ap (λ (x : ℕ). has x i) z ∙ has-empty i
 ]
 
--- one bit more of a set: the others stay
+-- a set up to the next bit: the other bits stay
 pub same-bit : (a b i : ℕ) → (i ≡ b → ⊥) → has (a % 2 ^ suc b) i ≡ has (a % 2 ^ b) i
 same-bit a b i n = elim (tested (leb (suc b) i)) [
   | passed e ↦
@@ -204,7 +202,7 @@ same-bit a b i n = elim (tested (leb (suc b) i)) [
       has-low a (suc b) i l ∙ sym (has-low a b i k)
 ]
 
--- a set that lacks a bit below a number gains it and stays below: the bits from it on are even
+-- a set below 2 ^ n stays below when it gains a bit i below n: a / 2 ^ i is even
 pub add-bit : (a i n : ℕ) → has a i ≡ false → a < 2 ^ n → i < n → a + 2 ^ i < 2 ^ n
 unfolding has
 add-bit a i n e h l =
@@ -235,7 +233,7 @@ pub mod-stays : (a b : ℕ) → has a b ≡ false → a % 2 ^ (b + 1) ≡ a % 2 
 unfolding has
 mod-stays a b e = low-digit a b ∙ rw (digit-of (a / 2 ^ b) .1 e) (omega arith)
 
--- a bit below 32, as the code makes it
+-- a bit below 32, as the code computes it
 pub one-bit : (b : ℕ) → b < 32 → 1 * 2 ^ b % 4294967296 ≡ 2 ^ b
 one-bit b h =
     let p : 2 ^ b < 2 ^ 32 = pow-lt h in

@@ -1,4 +1,4 @@
--- Walking along the sets of a record's parts, with the one that is asked for kept on the way.
+-- Walking along the sets of a record's parts, and keeping the one that is asked for.
 use Prim.Native.Nat.{ℕ, zero, suc, _+_, _-_, _^_, _<_, _≤_, zero-le}
 use mathlib.Core.Path.{_≡_, refl, sym, ap, _∙_}
 use mathlib.Core.Bool.{Bool, true, false, cond}
@@ -9,7 +9,8 @@ use lib.Dec.{eqb, eqb·suc-suc, eqb·zero-suc, eqb·suc-zero}
 use lib.ListN.{length, getD, length-append}
 use Rattle.record.specs.Split.{fits, longest, run, cut}
 
--- of the whole list, what is left, the place asked for, what was found there, and how many are passed
+-- how far the walk is: the whole list, what is left of it, the index asked for, what was found there,
+-- and how many sets are passed
 pub record Reached (whole rest : List ℕ) (place found passed : ℕ) : Type 0 where
   pub done : List ℕ
   pub joins : whole ≡ done ++ rest
@@ -19,7 +20,7 @@ pub record Reached (whole rest : List ℕ) (place found passed : ℕ) : Type 0 w
 pub start : (whole : List ℕ) (place : ℕ) → Reached whole whole place 0 0
 start whole place = record { done = []; joins = refl; count = refl; there = refl }
 
--- one more behind a list
+-- a list with one element appended
 getD-one-more : (done : List ℕ) (x place : ℕ) → getD (done ++ (x ∷ [])) place 0 ≡ cond (eqb (length done) place) x (getD done place 0)
 getD-one-more [] x zero = refl
 getD-one-more [] x (suc place) = rw (eqb·zero-suc place)
@@ -61,7 +62,7 @@ module _ (kind room left passed : ℕ) (more : passed < 16) where
       next-set : cut kind room left (suc (15 - passed)) ≡ run kind room left ∷ cut kind room (left - run kind room left) (15 - passed)
       next-set = unfold cut in rw f
 
--- every set of the parts of some groups is at most those groups and the main one
+-- every set into which groups are cut is at most those groups and the main one
 pub cut-most : (kind room n left i : ℕ) → getD (cut kind room left n) i 0 ≤ 1 + left
 unfolding cut
 cut-most kind room zero left i = zero-le

@@ -1,4 +1,4 @@
--- What the proofs use of the kinds' tables, found by computing over all of them: a seventh kind is computed with the others.
+-- What the proofs use of the kinds' tables, computed over all of them: a seventh kind is computed with the others.
 use Prim.Native.Nat.{ℕ, zero, suc, _+_, _%_, _^_, _<_, _≤_}
 use mathlib.Core.Path.{_≡_, refl}
 use mathlib.Core.Bool.{Bool, true, false, cond, _&&_}
@@ -98,12 +98,12 @@ module _ (kind set bit : ℕ) where
   pub length-stays : has set bit ≡ false → set-length kind (set % 2 ^ (bit + 1)) ≡ set-length kind (set % 2 ^ bit)
   length-stays h = rw (add-one bit, size-next (layout kind) set bit, h) (omega arith)
 
--- below bit 0 there is none
+-- the groups below bit 0 take no octets
 pub length-none : (kind set : ℕ) → set-length kind (set % 2 ^ 0) ≡ 0
 unfolding size
 length-none kind set = rw (mod-one set, named-empty (layout kind))
 
--- more bits take no less
+-- more bits take no fewer octets
 added : (h : Bool) (a x y : ℕ) → y ≡ a + cond h x 0 → a ≤ y
 added true a x y e = omega arith
 added false a x y e = omega arith

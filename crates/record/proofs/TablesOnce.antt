@@ -1,4 +1,4 @@
--- No second reply meets the contracts of the tables: each public function, over the contract itself.
+-- No second reply meets the contracts of the tables: each public function, on its own contract.
 use Rattle.record.proofs.groups.is_known.Reads as groups-is-known
 use Rattle.record.proofs.groups.has.Reads as groups-has
 use Rattle.record.proofs.groups.listed.Reads as groups-listed

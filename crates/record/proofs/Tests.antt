@@ -68,12 +68,12 @@ pub and-r : (x y : Bool) → (x && y) ≡ true → y ≡ true
 and-r true y e = e
 and-r false y e = absurd (true≢false (sym e))
 
--- a test holds of all the elements of a list
+-- whether a test holds for all elements of a list
 abbrev pub all : {A : Type 0} → (A → Bool) → List A → Bool
 all p [] = true
 all p (x ∷ l) = p x && all p l
 
--- then of the one at a place, and past the end if it holds of the default
+-- then it holds at every index, past the end too if it holds for the default
 pub all-at : {A : Type 0} (p : A → Bool) (l : List A) (d : A) → all p l ≡ true → p d ≡ true → (i : ℕ) → p (getD l i d) ≡ true
 all-at p [] d e f i = f
 all-at p (x ∷ l) d e f zero = and-l (p x) (all p l) e

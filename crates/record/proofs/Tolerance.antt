@@ -42,7 +42,7 @@ past : {A : Type 0} (b : Bool) (n : ℕ) (a : Answer A) (x : A) → provided b n
 past true n a x e = (refl, e)
 past false n a x e = absurd (never x n (sym e))
 
--- a notification that is read is read the same with more octets behind it, as long as it is not above 512
+-- a notification that is not refused is read the same with more octets after it, as long as there are at most 512
 pub more-octets : (kind : ℕ) (s t : List ℕ) (p : Part) → part-of kind s ≡ given p → length (s ++ t) ≤ 512 →
     (part-of kind (s ++ t) ≡ given p) × ((v : List ℕ) → joined kind (s ++ t) v ≡ joined kind s v)
 unfolding part-of values
@@ -72,7 +72,7 @@ more-octets kind s t p e h =
 
 -- ---- reserved bits
 
--- bit 0 turned over, and every other as it was
+-- bit 0 inverted, and every other as it was
 turned-bit : (x i : ℕ) → has (turned x) i ≡ cond (eqb i 0) (not (has x i)) (has x i)
 turned-bit x zero = has-zero (turned x) ∙ even (tested (eqb (x % 2) 1)) ∙ ap not (sym (has-zero x))
   where

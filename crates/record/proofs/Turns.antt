@@ -1,4 +1,4 @@
--- What the loops over rows and numbers find, turn by turn, and the five tests of a record.
+-- What the loops over rows and numbers find, step by step, and the five tests of a record.
 use Prim.Native.Nat.{ℕ, _+_, _<_, _≤_}
 use mathlib.Core.Path.{_≡_, refl, sym, ap, _∙_}
 use mathlib.Core.Bool.{Bool, true, false, cond, _&&_, and-true}
@@ -12,7 +12,7 @@ use Rattle.record.specs.Layout.{layout, no-row}
 use Rattle.record.specs.Groups.{has, named, listed, known, within}
 use Rattle.record.specs.Record.{all-fit, others, all-zero, formed}
 
--- ---- a turn of a loop: what is left from here is one row or number, and what is left from the next
+-- ---- a step of a loop: what is left from here is one row or number, and what is left from the next
 
 module _ (set : ℕ) (rows : List Row) (i : ℕ) (r : Row) (e : r ≡ getD rows i no-row) (h : i < length rows) (v : List ℕ) where
   left : drop i rows ≡ r ∷ drop (i + 1) rows

@@ -1,4 +1,4 @@
--- No second reply meets a contract: for each public function, over the contract itself.
+-- No second reply meets a contract: for each public function, on its own contract.
 use Rattle.record.proofs.Once.{Once, same}
 use Rattle.record.proofs.formed.formed.Reads as formed
 use Rattle.record.proofs.formed.well_formed.Reads as well-formed

@@ -25,7 +25,7 @@ module _ (r : Row) (rest : List Row) (v out : List ℕ) (at : ℕ) where
       ∙ placed-append out at a (written rest v)
   write-row false = rw (add-zero at)
 
--- what is left to write from the next row on, and from row i on
+-- writing row i, then the rows after it
 pub write-next : (among : ℕ) (rows : List Row) (i : ℕ) (r : Row) (v out : List ℕ) (at : ℕ) → r ≡ getD rows i no-row → i < length rows →
     placed (placed out at (cond (has among (r .0)) (spelled (octets-of (r .2)) (getD v (r .1) 0)) [])) (at + cond (has among (r .0)) (octets-of (r .2)) 0)
     (written (named among (drop (i + 1) rows)) v) ≡
@@ -45,7 +45,7 @@ pub write-none : (among : ℕ) (rows : List Row) (v out : List ℕ) (at : ℕ) �
 unfolding written named
 write-none among rows v out at e = rw e
 
--- the octets of rows
+-- the number of octets that rows take
 pub length-written : (rows : List Row) (v : List ℕ) → length (written rows v) ≡ size rows
 unfolding written size
 length-written [] v = refl

@@ -1,13 +1,13 @@
--- What a call answers, and what it leaves behind it.
+-- A call's answer, and what the call leaves in a lent buffer.
 use Prim.Native.Nat.{ℕ}
 use mathlib.Core.Bool.{Bool, cond}
 
--- an answer, or this document's number for a refusal
+-- an answer, or document 01's number of a refusal
 pub data Answer (A : Type 0) : Type 0 where
   refused : ℕ → Answer A
   given : A → Answer A
 
--- "Where several apply": a test that must hold, the refusal where it does not, and what follows where it does
+-- "Where several apply": the answer if a test holds, and otherwise the refusal n
 abbrev pub provided : {A : Type 0} → Bool → ℕ → Answer A → Answer A
 provided test n answer = cond test answer (refused n)
 

@@ -101,7 +101,7 @@ feature-of octets = cond (eqb (length octets) 8) (given (named (words octets))) 
 abbrev pub feature-octets : Feature → List ℕ
 feature-octets f = spelled 4 (named-bits (f .features)) ++ spelled 4 (named-bits (f .targets))
 
--- what the code's answer is in document 01: the Feature value, or the refusal's number
+-- what the code's answer means in document 01: the Feature value, or the refusal's number
 abbrev pub meant : FeatureAnswer → Answer Feature
 meant (answers.Feature f) = given f
 meant (answers.Refused x) = refused (number-of x)

@@ -16,12 +16,12 @@ unfoldable pub named : ℕ → List Row → List Row
 named set [] = []
 named set (r ∷ rows) = cond (has set (r .0)) (r ∷ named set rows) (named set rows)
 
--- the octets that rows take
+-- the number of octets that rows take
 unfoldable pub size : List Row → ℕ
 size [] = 0
 size (r ∷ rows) = octets-of (r .2) + size rows
 
--- the set of all the groups of rows
+-- the set of the groups that rows belong to
 unfoldable pub groups-of : List Row → ℕ
 groups-of [] = 0
 groups-of (r ∷ rows) = cond (has (groups-of rows) (r .0)) (groups-of rows) (groups-of rows + 2 ^ r .0)
@@ -42,18 +42,18 @@ listed kind = optional (groups-of (layout kind))
 abbrev pub flags-octets : ℕ → ℕ
 flags-octets kind = cond (eqb kind 2) 3 2
 
--- the octets that the groups of a set take
+-- the number of octets that the groups of a set take
 abbrev pub set-length : ℕ → ℕ → ℕ
 set-length kind set = size (named set (layout kind))
 
--- the octets that the group of a bit takes: none where the kind lists no such group
+-- the number of octets of the group that a bit names: 0 if the kind lists no such group
 abbrev pub group-length : ℕ → ℕ → ℕ
 group-length kind bit = set-length kind (2 ^ bit)
 
--- every group of one set is in another
+-- whether every group of one set is in another
 abbrev pub within : ℕ → ℕ → Bool
 within set all = eqb (bitAnd set all) set
 
--- a set with its bit 0 turned over: "Bit 0 is More Data: the main group is present exactly when it is 0."
+-- a set with its bit 0 inverted: "Bit 0 is More Data: the main group is present exactly when it is 0."
 abbrev pub turned : ℕ → ℕ
 turned set = set + 1 - set % 2 * 2

@@ -7,7 +7,7 @@ use Rattle.record.specs.declared.layout.Row.{Row}
 use Rattle.record.specs.declared.layout.Width.{Width}
 use Rattle.record.specs.declared.layout.Width.the-variants.{U8, U16, U24, S16}
 
--- a field is its place among a record's wire numbers
+-- a field is an index into a record's wire numbers
 
 abbrev pub speed : ℕ
 speed = 0
@@ -110,11 +110,11 @@ fields = 31
 abbrev pub at : ℕ → ℕ → Width → Row
 at b f w = record { 0 = b; 1 = f; 2 = w }
 
--- the row that stands for none
+-- the row past the last one, and of an unknown kind
 abbrev pub no-row : Row
 no-row = at 0 speed U8
 
--- "Widths: u8, u16, u24, s16": the octets of each
+-- "Widths: u8, u16, u24, s16": the number of octets of each
 abbrev pub octets-of : Width → ℕ
 octets-of U8 = 1
 octets-of U16 = 2
@@ -138,7 +138,7 @@ _u24 field = (field, U24) ∷ []
 abbrev pub _s16 : ℕ → List (ℕ × Width)
 _s16 field = (field, S16) ∷ []
 
--- fields that stand together
+-- two lists of fields joined into one group
 abbrev pub _and_ : List (ℕ × Width) → List (ℕ × Width) → List (ℕ × Width)
 _and_ fields others = fields ++ others
 
@@ -174,7 +174,7 @@ abbrev pub rows-of : ℕ → List (ℕ × Width) → List Row
 rows-of bit [] = []
 rows-of bit (x ∷ fields) = at bit (x .0) (x .1) ∷ rows-of bit fields
 
--- the rows of groups, one bit after the other: "in ascending bit order"
+-- the rows of groups, each at the next bit: "in ascending bit order"
 abbrev pub in-turn : ℕ → List (List (ℕ × Width)) → List Row
 in-turn bit [] = []
 in-turn bit (group ∷ groups) = rows-of bit group ++ in-turn (suc bit) groups
@@ -218,10 +218,10 @@ indoor-bike =
     (average-speed u16 ∷ cadence u16 ∷ average-cadence u16 ∷ distance u24 ∷ resistance s16 ∷ power s16 ∷ average-power s16 ∷
     E ∷ H ∷ M ∷ T ∷ R ∷ [])
 
--- the tables by kind: a seventh kind is one more
+-- the tables by kind: a seventh kind adds one more
 unfoldable pub tables : List (List Row)
 tables = [] ∷ treadmill ∷ cross-trainer ∷ step-climber ∷ stair-climber ∷ rower ∷ indoor-bike ∷ []
 
--- the rows of a kind: none where the number is no kind
+-- the rows of a kind: none for an unknown kind
 unfoldable pub layout : ℕ → List Row
 layout kind = getD tables kind []

@@ -15,7 +15,7 @@ use Rattle.record.specs.Octets.{number}
 use Rattle.record.specs.Answer.{Answer, refused, given, provided, after}
 use Rattle.record.specs.Refusal.{number-of}
 
--- what each case of the answer means: this document's number, or the part's groups, whether it is the last, and its direction
+-- what each case of the answer means: document 01's refusal number, or the part's groups, whether it is the last, and its direction
 abbrev pub meant : PartAnswer → Answer Part
 meant (Named p) = given p
 meant (Refused x) = refused (number-of x)
@@ -24,8 +24,8 @@ meant (Refused x) = refused (number-of x)
 abbrev pub flags-of : ℕ → List ℕ → ℕ
 flags-of kind s = number (flags-octets kind) s
 
--- the groups that flags name, bit 0 for the main one. "Bit 0 is More Data: the main group is present exactly when it is 0." "All other
--- bits are reserved: .. ignored when read."
+-- the groups that flags name; bit 0 stands for the main group. "Bit 0 is More Data: the main group is present exactly when it is 0." "All
+-- other bits are reserved: .. ignored when read."
 abbrev pub names : ℕ → ℕ → ℕ
 names kind flags = bitAnd (turned flags) (1 + listed kind)
 
@@ -33,7 +33,7 @@ names kind flags = bitAnd (turned flags) (1 + listed kind)
 abbrev pub heading : ℕ → ℕ → ℕ
 heading kind flags = cond (eqb kind 2) (flags / 2 ^ 15 % 2) 0
 
--- what a notification of a kind says: its optional groups, whether it is the last part, and its direction; or the first of the refusals
+-- what the flags of a notification say: its optional groups, whether it is the last part, and its direction; or the first of the refusals
 -- 11, 30, 31 and 32 that applies
 unfoldable pub part-of : ℕ → List ℕ → Answer Part
 part-of kind s =
@@ -49,7 +49,7 @@ unfoldable pub read-into : List Row → List ℕ → List ℕ → List ℕ
 read-into [] s v = v
 read-into (r ∷ rows) s v = read-into rows (drop (octets-of (r .2)) s) (set v (r .1) (number (octets-of (r .2)) s))
 
--- the numbers with those of the groups of a set, which stand behind the flags in the order of the wire
+-- a record's numbers, with those of a set's groups read from the octets after the flags
 unfoldable pub values : ℕ → ℕ → List ℕ → List ℕ → List ℕ
 values kind set s v = read-into (named set (layout kind)) (drop (flags-octets kind) s) v
 
@@ -57,6 +57,6 @@ values kind set s v = read-into (named set (layout kind)) (drop (flags-octets ki
 abbrev pub joined : ℕ → List ℕ → List ℕ → List ℕ
 joined kind s v = values kind (names kind (flags-of kind s)) s v
 
--- the numbers held after a notification: as they were where it is refused
+-- the numbers held after a notification: unchanged if it is refused
 abbrev pub held-after : ℕ → List ℕ → List ℕ → List ℕ
 held-after kind s v = after (part-of kind s) (joined kind s v) v

@@ -18,17 +18,17 @@ number zero s = 0
 number (suc n) [] = 0
 number (suc n) (b ∷ s) = b + 256 * number n s
 
--- the signed number whose sixteen bits are these, and its bits: two's complement, which is what the code's i16 means
+-- sixteen bits as a signed number, and a signed number as sixteen bits: two's complement, as in the code's i16
 abbrev pub signed : ℕ → ℤ
 signed n = toZ w16 n
 
 abbrev pub unsigned : ℤ → ℕ
 unsigned z = ofZ w16 z
 
--- lent octets, with some put from a place on: as far as they reach
+-- lent octets with others written over them from an index on; what would go past the end is left out
 abbrev pub placed : List ℕ → ℕ → List ℕ → List ℕ
 placed out at octets = sets out at octets
 
--- "lent octets past the length stay": an answer's octets, and behind them what was lent
+-- "lent octets past the length stay": an answer's octets, and after them what was lent
 abbrev pub over : List ℕ → List ℕ → List ℕ
 over out octets = octets ++ drop (length octets) out

@@ -1,4 +1,4 @@
--- What stands side by side in document 01's layouts, said of any rows and found by computing over all kinds: a law in other words than the table.
+-- Which fields follow each other in document 01's layouts, for any rows, and computed for all kinds: a law in words other than the table's.
 use Prim.Native.Nat.{ℕ}
 use mathlib.Core.Path.{_≡_, refl}
 use mathlib.Core.Bool.{Bool, true, false, cond, not, _&&_, _||_}
@@ -11,24 +11,24 @@ use Rattle.record.specs.declared.record.Record.{Record}
 use Rattle.record.specs.Layout.{at, fields, inclination, ramp-angle, positive-gain, negative-gain, total-energy, energy-per-hour, energy-per-minute, tables, treadmill, cross-trainer, step-climber, stair-climber, rower, indoor-bike}
 use Rattle.record.specs.Record.{wire, of-wire}
 
--- a row and the one just behind it: the first has field a exactly when the second has field b, and then they are of one group
+-- a row and the next: the first has field a exactly when the second has field b, and then both belong to one group
 abbrev pub beside : ℕ → ℕ → Row → Row → Bool
 beside a b r s = cond (eqb (r .1) a) (eqb (s .1) b && eqb (r .0) (s .0)) (not (eqb (s .1) b))
 
--- no field's row: it stands before the first row and behind the last
+-- a row of no field, which serves as the row before the first and as the row after the last
 abbrev pub edge : Row
 edge = at 0 fields U8
 
--- so it is of each row and the next, from a row on
+-- `beside` holds for each row and the next, from a row on
 abbrev pub each-next : ℕ → ℕ → Row → List Row → Bool
 each-next a b r [] = beside a b r edge
 each-next a b r (s ∷ rows) = beside a b r s && each-next a b s rows
 
--- wherever field a stands, field b follows it in the same group; and b stands nowhere else
+-- wherever field a is, field b follows it in the same group; and b is nowhere else
 abbrev pub followed : ℕ → ℕ → List Row → Bool
 followed a b rows = each-next a b edge rows
 
--- a field stands in no row
+-- a field is in no row
 abbrev pub nowhere : ℕ → List Row → Bool
 nowhere a [] = true
 nowhere a (r ∷ rows) = not (eqb (r .1) a) && nowhere a rows
@@ -44,7 +44,7 @@ abbrev pub all-ordered : List (List Row) → Bool
 all-ordered [] = true
 all-ordered (rows ∷ more) = ordered rows && all-ordered more
 
--- every kind's
+-- the tables of all kinds are ordered
 pub kinds-ordered : all-ordered tables ≡ true
 unfolding tables treadmill cross-trainer step-climber stair-climber rower indoor-bike
 kinds-ordered = refl
@@ -56,12 +56,12 @@ pub gain-kinds :
 unfolding treadmill cross-trainer step-climber stair-climber rower indoor-bike
 gain-kinds = (refl, refl, refl, refl, refl, refl)
 
--- negative before positive is refused, and so are the two in one order but in two groups
+-- `ordered` rejects negative gain before positive gain, and the two in the right order but in two groups
 pub exchanged-refused :
     (ordered (at 5 negative-gain U16 ∷ at 5 positive-gain U16 ∷ []) ≡ false) × (ordered (at 5 positive-gain U16 ∷ at 6 negative-gain U16 ∷ []) ≡ false)
 exchanged-refused = (refl, refl)
 
--- a record whose positive and negative gain are exchanged: what the samples, demand 2 and the listing's law refuse
+-- a record with its positive and negative gain exchanged, which the samples, demand 2 and the listing's law reject
 abbrev pub exchanged : Record → Record
 exchanged r =
     let v : List ℕ = wire r in

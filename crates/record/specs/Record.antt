@@ -26,7 +26,7 @@ wire r =
     r .«stride_count» ∷ unsigned (r .resistance) ∷ unsigned (r .power) ∷ unsigned (r .«average_power») ∷
     r .«average_stroke_rate» ∷ r .cadence ∷ r .«average_cadence» ∷ []
 
--- the record with these wire numbers, each cut to its field's type
+-- the record with these wire numbers, each truncated to its field's type
 abbrev pub of-wire : ℕ → ℕ → ℕ → List ℕ → Record
 of-wire k g d v =
     let n : ℕ → ℕ = λ field. getD v field 0 % 2 ^ 16 in
@@ -65,7 +65,7 @@ unfoldable pub all-fit : List Row → List ℕ → Bool
 all-fit [] v = true
 all-fit (r ∷ rows) v = ltb (getD v (r .1) 0) (256 ^ octets-of (r .2)) && all-fit rows v
 
--- the numbers of the fields that stand in no row: those of the rows are set aside
+-- numbers, with 0 for every field that is in one of the rows
 unfoldable pub others : List Row → List ℕ → List ℕ
 others [] v = v
 others (r ∷ rows) v = others rows (set v (r .1) 0)
@@ -84,12 +84,12 @@ formed kind groups direction v =
 abbrev pub well-formed : Record → Bool
 well-formed r = formed (r .kind) (r .groups) (r .direction) (wire r)
 
--- the numbers of the fields that stand in rows, over other numbers
+-- the numbers z, with v's number for every field that is in one of the rows
 unfoldable pub kept : List Row → List ℕ → List ℕ → List ℕ
 kept [] v z = z
 kept (r ∷ rows) v z = kept rows v (set z (r .1) (getD v (r .1) 0))
 
--- what a well-formed record's tests say
+-- what the tests of `formed` say about a well-formed record
 pub record Formed (k g d : ℕ) (v : List ℕ) : Type 0 where
   pub kind-least : 1 ≤ k
   pub kind-greatest : k ≤ 6
@@ -104,7 +104,7 @@ abbrev pub type-bits : List ℕ
 type-bits =
     16 ∷ 16 ∷ 16 ∷ 8 ∷ 16 ∷ 16 ∷ 32 ∷ 16 ∷ 16 ∷ 16 ∷ 16 ∷ 16 ∷ 16 ∷ 16 ∷ 16 ∷ 8 ∷ 8 ∷ 8 ∷ 16 ∷ 16 ∷ 16 ∷ 16 ∷ 16 ∷ 16 ∷ 16 ∷ 16 ∷ 16 ∷ 16 ∷ 8 ∷ 16 ∷ 16 ∷ []
 
--- each number of a list has no more bits than the other list says
+-- each number of a list has at most as many bits as the other list says
 unfoldable pub bits-within : List ℕ → List ℕ → Bool
 bits-within [] v = true
 bits-within (b ∷ bs) [] = true

@@ -3,7 +3,7 @@ use Prim.Native.Nat.{ℕ}
 use Rattle.record.specs.declared.refusal.Refusal.{Refusal}
 use Rattle.record.specs.declared.refusal.Refusal.the-variants.{ClientAboveThree, UnknownKind, PayloadOutOfRange, NotWellFormed, OutputTooShort, NoSuchPart, UnusableSetup, ConnectionMismatch, EmptyWrite, IndicationsOff, ResponseAwaited, NothingDue, NotEightOctets, NotificationTooLong, ShorterThanFlags, ShorterThanGroups, OutsideToldSet, Incomplete, ToldSetUnlisted, CaptureTooLong, CaptureCutShort}
 
--- the table's number: the code's enum has each number's words
+-- the table's number; the table's words are beside the code's enum
 abbrev pub number-of : Refusal → ℕ
 number-of ClientAboveThree = 10
 number-of UnknownKind = 11

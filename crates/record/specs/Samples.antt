@@ -1,5 +1,5 @@
--- A record of each kind with all of its groups, no two values the same, by its named fields; and what splitting and reading make of it, octet
--- for octet. The octets were worked out from document 01's table alone, a group on each line.
+-- A record of each kind with all of its groups, no two values the same, given by its named fields; and the octets that it is split into and
+-- read back from. The octets were worked out from document 01's table alone, one group per line.
 use Prim.Native.Nat.{ℕ, _-_}
 use mathlib.Core.Path.{_≡_, refl}
 use mathlib.Core.Bool.{true}
@@ -16,7 +16,7 @@ use Rattle.record.specs.Record.{of-wire, all-fit, others, all-zero, form
 use Rattle.record.specs.Notification.{part-of, read-into, values, held-after}
 use Rattle.record.specs.Split.{longest, cut, written, extent-of, split-wire, split-of, lent-after}
 
--- a record is split into one notification at payload 512, into a longer buffer whose other octets stay; and that is read as the record
+-- at payload 512 a record is split into one notification, in a longer buffer whose other octets stay; and it is read back as the record
 pub record Stands (r : Record) (octets : List ℕ) : Type 0 where
   pub answers : split-of r 512 0 48 ≡ given (record { length = length octets; parts = 1 })
   pub leaves : lent-after r 512 0 (replicate 48 0xAA) ≡ octets ++ replicate (48 - length octets) 0xAA

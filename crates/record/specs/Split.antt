@@ -16,7 +16,7 @@ use Rattle.record.specs.Record.{wire, formed}
 use Rattle.record.specs.Answer.{Answer, refused, given, provided, after}
 use Rattle.record.specs.Refusal.{number-of}
 
--- what each case of the answer means: this document's number, or the part's length and the number of parts
+-- what each case of the answer means: document 01's refusal number, or the part's length and the number of parts
 abbrev pub meant : SplitAnswer → Answer Extent
 meant (Part e) = given e
 meant (Refused x) = refused (number-of x)
@@ -54,16 +54,16 @@ cut kind room set (suc n) =
 abbrev pub sets-of : ℕ → ℕ → ℕ → List ℕ
 sets-of kind groups payload = cut kind (payload - flags-octets kind) groups 16
 
--- the octets of rows, with the numbers of a record
+-- the octets of rows, from a record's wire numbers
 unfoldable pub written : List Row → List ℕ → List ℕ
 written [] v = []
 written (r ∷ rows) v = spelled (octets-of (r .2)) (getD v (r .1) 0) ++ written rows v
 
--- a part's flags: its groups, More Data where the main one is absent, and "Direction is set in every part"
+-- a part's flags: its groups, More Data if the main group is absent, and "Direction is set in every part"
 abbrev pub flags : ℕ → ℕ → ℕ
 flags set direction = turned set + direction * 2 ^ 15
 
--- the octets of a part with a set of groups, bit 0 for the main one
+-- the octets of a part with a set of groups; bit 0 stands for the main group
 abbrev pub octets : ℕ → ℕ → ℕ → List ℕ → List ℕ
 octets kind set direction v = spelled (flags-octets kind) (flags set direction) ++ written (named set (layout kind)) v
 
@@ -81,18 +81,18 @@ extent-of kind groups direction v payload i lent =
     let count : ℕ = length (sets-of kind groups payload) in
     provided (ltb i count) 15 (provided (leb size lent) 14 (given (record { length = size; parts = count })))
 
--- "The answer for part i, counted from 0, is its octets, its length and the number of parts": here the latter two, or the first of the
--- refusals 11, 12, 13, 15 and 14 that applies; by a record's kind, groups, direction and wire numbers
+-- "The answer for part i, counted from 0, is its octets, its length and the number of parts": here the length and the number of parts, or
+-- the first of the refusals 11, 12, 13, 15 and 14 that applies, for a record's kind, groups, direction and wire numbers
 unfoldable pub split-wire : ℕ → ℕ → ℕ → List ℕ → ℕ → ℕ → ℕ → Answer Extent
 split-wire kind groups direction v payload i lent =
     provided (known kind) 11
     (provided (payload-known payload) 12
     (provided (formed kind groups direction v) 13 (extent-of kind groups direction v payload i lent)))
 
--- and of a record
+-- the same for a record
 abbrev pub split-of : Record → ℕ → ℕ → ℕ → Answer Extent
 split-of r payload i lent = split-wire (r .kind) (r .groups) (r .direction) (wire r) payload i lent
 
--- the lent octets afterwards: the part's, and past its length those that were lent
+-- the lent buffer afterwards: the part's octets, and past its length those that were lent
 abbrev pub lent-after : Record → ℕ → ℕ → List ℕ → List ℕ
 lent-after r payload i out = after (split-of r payload i (length out)) (over out (part-octets r payload i)) out

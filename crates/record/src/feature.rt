@@ -10,7 +10,7 @@ pub struct Feature {
     pub targets: u32,
 }
 
-// What octets are read as.
+// What `from_octets` answers.
 pub enum FeatureAnswer {
     Feature(Feature),
     Refused(Refusal),
@@ -97,7 +97,7 @@ impl Feature {
 
     pub const TARGET_CADENCE: u8 = 16;
 
-    // The Feature value of octets: bits that have no name are left out.
+    // Reads a Feature value; bits that have no name are cleared.
     pub fn from_octets(octets: &[u8]) -> FeatureAnswer
         ensures { λ r. ⌜ meant r ≡ feature-of (now (octets .entry)) ⌝ }
     {
@@ -109,7 +109,7 @@ impl Feature {
         FeatureAnswer::Feature(Feature { features, targets })
     }
 
-    // The octets of a Feature value: bits that have no name are written 0.
+    // The octets of a Feature value; bits that have no name are written 0.
     pub fn to_octets(self) -> [u8; 8]
         ensures { λ r. ⌜ r ≡ feature-octets self ⌝ }
     {

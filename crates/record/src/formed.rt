@@ -27,7 +27,7 @@ fn limit(width: layout::Width) -> u32
     }
 }
 
-// Whether the number of a row fits its width, where the row's group is in the set.
+// Whether a row's number fits its width; true if the row's group is not in the set.
 fn row_fits(set: u32, row: layout::Row, numbers: &[u32; 31]) -> bool
     requires { ⌜ row .1 < 31 ⌝ }
     ensures { λ r. ⌜ r ≡ all-fit (named set (row ∷ [])) (now (numbers .entry)) ⌝ }
@@ -54,7 +54,7 @@ fn all_fits(kind: u8, set: u32, numbers: &[u32; 31]) -> bool
     true
 }
 
-// Sets the number of a row to 0, where the row's group is in the set.
+// Sets a row's number to 0 if the row's group is in the set.
 fn clear_row(set: u32, row: layout::Row, numbers: &mut [u32; 31])
     requires { ⌜ row .1 < 31 ⌝ }
     ensures { λ r. ⌜ now (numbers .exit) ≡ Record·others (named set (row ∷ [])) (now (numbers .entry)) ⌝ }
@@ -66,7 +66,7 @@ fn clear_row(set: u32, row: layout::Row, numbers: &mut [u32; 31])
     }
 }
 
-// The numbers of the fields whose groups are not in the set: the others are 0.
+// The numbers, with 0 for every field whose group is in the set.
 fn others(kind: u8, set: u32, numbers: &[u32; 31]) -> [u32; 31]
     ensures { λ r. ⌜ r ≡ Record·others (named set (layout kind)) (now (numbers .entry)) ⌝ }
 {
@@ -78,7 +78,7 @@ fn others(kind: u8, set: u32, numbers: &[u32; 31]) -> [u32; 31]
     v
 }
 
-// Whether all of some numbers are 0.
+// Whether all numbers are 0.
 fn all_zeros(numbers: &[u32]) -> bool
     ensures { λ r. ⌜ r ≡ all-zero (now (numbers .entry)) ⌝ }
 {
@@ -90,7 +90,7 @@ fn all_zeros(numbers: &[u32]) -> bool
     true
 }
 
-// "direction is 0 unless kind 2"
+// The greatest direction of a kind: "direction is 0 unless kind 2".
 fn last_direction(kind: u8) -> u8
     ensures { λ r. ⌜ r ≡ cond (eqb kind 2) 1 0 ⌝ }
 {

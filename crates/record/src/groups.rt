@@ -1,4 +1,4 @@
-// Sets of groups, as masks: which are listed for a kind, how long each is, and what a set takes. Bit 0 stands for the main group.
+// Sets of groups, as bit masks: a kind's groups, the length of each, and the length of a set. Bit 0 stands for the main group.
 use crate::layout::CROSS_TRAINER;
 use crate::layout::INDOOR_BIKE;
 use crate::layout::ROWER;
@@ -176,7 +176,7 @@ fn indoor_bike_length(bit: u8) -> usize
     }
 }
 
-// The octets of the group that a bit names; none where the kind lists no such group.
+// The number of octets of the group that a bit names; 0 if the kind lists no such group.
 pub fn group_length(kind: u8, bit: u8) -> usize
     ensures { λ r. ⌜ r ≡ group-length kind bit ⌝ }
 {
@@ -191,7 +191,7 @@ pub fn group_length(kind: u8, bit: u8) -> usize
     }
 }
 
-// The octets that the groups of a set take.
+// The number of octets that the groups of a set take.
 pub fn groups_length(kind: u8, set: u32) -> usize
     ensures { λ r. ⌜ r ≡ set-length kind set ⌝ }
 {

@@ -1,5 +1,5 @@
-// The field tables of the six kinds, in the order of the wire: the bit that names a field's group, the field, its width.
-// Bit 0 stands for the main group. Whoever prints these tables prints document 01's.
+// The field tables of the six kinds, in wire order. A row has the bit that names a field's group, the field, and its
+// width. Bit 0 stands for the main group. The tables are document 01's.
 ghost use mathlib.Core.Path.{_≡_};
 ghost use lib.ListN.{length, getD};
 ghost use Rattle.record.specs.Layout.{octets-of, no-row, layout as Layout·layout, treadmill, cross-trainer, step-climber, stair-climber, rower, indoor-bike};
@@ -17,7 +17,7 @@ pub const ROWER: u8 = 5;
 
 pub const INDOOR_BIKE: u8 = 6;
 
-// The fields: each is a place among a record's 31 wire numbers.
+// The fields: each is an index into a record's 31 wire numbers.
 pub const SPEED: u8 = 0;
 
 pub const FLOORS: u8 = 1;
@@ -99,7 +99,7 @@ const U24: Width = Width::U24;
 
 const S16: Width = Width::S16;
 
-// The row that stands for none: past the last, and of no kind.
+// The row that is returned past the last one, and for an unknown kind.
 const NO_ROW: Row = Row(0, SPEED, U8);
 
 fn treadmill_row(i: usize) -> Row
@@ -243,7 +243,7 @@ fn indoor_bike_row(i: usize) -> Row
     }
 }
 
-// The octets that a width takes.
+// The number of octets that a width takes.
 pub fn width_length(width: Width) -> usize
     ensures { λ r. ⌜ r ≡ octets-of width ⌝ }
 {
@@ -255,7 +255,7 @@ pub fn width_length(width: Width) -> usize
     }
 }
 
-// The number of rows of a kind; none where the number is no kind.
+// The number of rows of a kind; 0 for an unknown kind.
 pub fn row_count(kind: u8) -> usize
     ensures { λ r. ⌜ r ≡ length (Layout·layout kind) ⌝ }
 {
@@ -270,7 +270,7 @@ pub fn row_count(kind: u8) -> usize
     }
 }
 
-// Row i of a kind, in the order of the wire; past the last, and of no kind, a row that means nothing.
+// Row i of a kind, in wire order; past the last row, and for an unknown kind, a row that means nothing.
 pub fn row_of(kind: u8, i: usize) -> Row
     ensures { λ r. ⌜ r ≡ getD (Layout·layout kind) i no-row ⌝ }
 {

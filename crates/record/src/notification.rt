@@ -1,4 +1,4 @@
-// Reading a notification of a kind: what it says of itself, and its values, joined to values already held.
+// Reading a notification of a kind: what its flags say, and its values, which are joined to values already held.
 use crate::groups::flags_length;
 use crate::groups::groups_length;
 use crate::groups::has;
@@ -25,7 +25,7 @@ ghost use Rattle.record.specs.Notification.{meant, flags-of, names as No
 // "30: notification above 512 octets".
 pub const LONGEST: usize = 512;
 
-// What a notification says of itself: its optional groups, whether it is the last part of a record, and its direction.
+// What the flags of a notification say: its optional groups, whether it is the last part of a record, and its direction.
 pub struct Part {
     pub groups: u32,
     pub last: bool,
@@ -47,7 +47,7 @@ fn flags(kind: u8, notification: &[u8]) -> u32
     u16_at(notification, 0) as u32
 }
 
-// The groups that flags name: bit 0, turned over, for the main one; reserved bits are ignored.
+// The groups that flags name: bit 0, inverted, stands for the main group; reserved bits are ignored.
 fn names(kind: u8, flags: u32) -> u32
     ensures { λ r. ⌜ r ≡ Notification·names kind flags ⌝ }
 {
@@ -68,7 +68,7 @@ fn heading(kind: u8, flags: u32) -> u8
     0
 }
 
-// What a notification says of itself, or the first of the refusals 11, 30, 31 and 32 that applies.
+// What the flags of a notification say, or the first of the refusals 11, 30, 31 and 32 that applies.
 pub fn part_of(kind: u8, notification: &[u8]) -> PartAnswer
     ensures { λ r. ⌜ meant r ≡ part-of kind (now (notification .entry)) ⌝ }
 {
@@ -95,7 +95,7 @@ pub fn part_of(kind: u8, notification: &[u8]) -> PartAnswer
     })
 }
 
-// Reads a row's number from a place on, where the set names its group; the place after it.
+// Reads a row's number at an index, if the set names its group; returns the index after it.
 fn read_row(row: Row, set: u32, notification: &[u8], at: usize, numbers: &mut [u32; 31]) -> usize
     requires { ⌜ (row .1 < 31) × (at < 256) ⌝ }
     ensures { λ r. ⌜ r ≡ at + cond (Groups·has set (row .0)) (octets-of (row .2)) 0 ⌝ }
@@ -110,7 +110,7 @@ fn read_row(row: Row, set: u32, notification: &[u8], at: usize, numbers: &mut [u
     at
 }
 
-// Reads the numbers of the groups of a set, in the order of the wire.
+// Reads the numbers of a set's groups, in wire order.
 fn read_rows(kind: u8, set: u32, notification: &[u8], numbers: &mut [u32; 31])
     ensures { λ r. ⌜ now (numbers .exit) ≡ values kind set (now (notification .entry)) (now (numbers .entry)) ⌝ }
 {
@@ -122,7 +122,7 @@ fn read_rows(kind: u8, set: u32, notification: &[u8], numbers: &mut [u32; 31])
     }
 }
 
-// Reads a notification: what it says of itself, and its values joined to the numbers held; a refusal leaves them as they are.
+// Reads a notification: returns what its flags say and joins its values to those held, which a refusal leaves unchanged.
 pub fn read(kind: u8, notification: &[u8], numbers: &mut [u32; 31]) -> PartAnswer
     ensures { λ r. ⌜ meant r ≡ part-of kind (now (notification .entry)) ⌝ }
     ensures { λ r. ⌜ now (numbers .exit) ≡ held-after kind (now (notification .entry)) (now (numbers .entry)) ⌝ }

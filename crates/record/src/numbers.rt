@@ -18,7 +18,7 @@ ghost use lib.ListN.{getD};
 ghost use Rattle.record.specs.Octets.{signed as Octets·signed, unsigned as Octets·unsigned};
 ghost use Rattle.record.specs.Record.{wire, of-wire};
 
-// A field's value as a wire number: a u8, a u16, and an s16 as its sixteen bits.
+// A field's value as a wire number: a u8, a u16, or the sixteen bits of an s16.
 fn short(x: u8) -> u32
     ensures { λ r. ⌜ r ≡ x ⌝ }
 {
@@ -37,7 +37,7 @@ fn bits(z: i16) -> u32
     wide(unsigned(z))
 }
 
-// A record's wire numbers, in the fields' order: an s16 as its sixteen bits.
+// A record's wire numbers, in field order; an s16 is given as its sixteen bits.
 pub fn numbers_of(r: Record) -> [u32; 31]
     ensures { λ n. ⌜ n ≡ wire r ⌝ }
 {
@@ -85,7 +85,7 @@ pub(crate) fn number_at(numbers: &[u32; 31], field: u8) -> u32
     numbers[i]
 }
 
-// The number of a field, cut to a u8, to a u16, and to an i16.
+// The number of a field, truncated to a u8, a u16 and an i16.
 fn octet_at(numbers: &[u32; 31], field: u8) -> u8
     requires { ⌜ field < 31 ⌝ }
     ensures { λ r. ⌜ r ≡ getD (now (numbers .entry)) field 0 % 2 ^ 8 ⌝ }
@@ -107,7 +107,7 @@ fn signed_at(numbers: &[u32; 31], field: u8) -> i16
     signed(word_at(numbers, field))
 }
 
-// The parts of the record with these wire numbers.
+// The fields of a record that are structs, from the record's wire numbers.
 fn climb_of(numbers: &[u32; 31]) -> Climb
     ensures { λ r. ⌜ r ≡ of-wire 0 0 0 (now (numbers .entry)) .climb ⌝ }
 {
@@ -172,7 +172,7 @@ fn step_rates_of(numbers: &[u32; 31]) -> StepRates
     }
 }
 
-// The record with these wire numbers, each cut to its field's type.
+// The record with these wire numbers, each truncated to its field's type.
 pub fn record_of(kind: u8, groups: u32, direction: u8, numbers: &[u32; 31]) -> Record
     ensures { λ r. ⌜ r ≡ of-wire kind groups direction (now (numbers .entry)) ⌝ }
 {

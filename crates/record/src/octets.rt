@@ -5,7 +5,7 @@ ghost use lib.ListN.{drop};
 ghost use Rattle.record.specs.Layout.{octets-of};
 ghost use Rattle.record.specs.Octets.{number, spelled, placed, signed as Octets·signed, unsigned as Octets·unsigned};
 
-// The octet at a place.
+// The octet at an index.
 pub fn u8_at(s: &[u8], at: usize) -> u8
     ensures { λ r. ⌜ r ≡ number 1 (drop at (now (s .entry))) ⌝ }
 {
@@ -15,7 +15,7 @@ pub fn u8_at(s: &[u8], at: usize) -> u8
     0
 }
 
-// The number of two octets from a place on.
+// The number in the two octets that begin at an index.
 pub fn u16_at(s: &[u8], at: usize) -> u16
     ensures { λ r. ⌜ r ≡ number 2 (drop at (now (s .entry))) ⌝ }
 {
@@ -27,7 +27,7 @@ pub fn u16_at(s: &[u8], at: usize) -> u16
     0
 }
 
-// The number of three octets, below 16,777,216.
+// The number in three octets, which is below 16,777,216.
 pub fn u24_at(s: &[u8], at: usize) -> u32
     ensures { λ r. ⌜ r ≡ number 3 (drop at (now (s .entry))) ⌝ }
 {
@@ -39,7 +39,7 @@ pub fn u24_at(s: &[u8], at: usize) -> u32
     0
 }
 
-// The number of four octets.
+// The number in four octets.
 pub(crate) fn u32_at(s: &[u8], at: usize) -> u32
     ensures { λ r. ⌜ r ≡ number 4 (drop at (now (s .entry))) ⌝ }
 {
@@ -51,7 +51,7 @@ pub(crate) fn u32_at(s: &[u8], at: usize) -> u32
     0
 }
 
-// The signed number of sixteen bits, in two's complement.
+// Sixteen bits as a signed number, in two's complement.
 pub(crate) fn signed(bits: u16) -> i16
     ensures { λ r. ⌜ r ≡ Octets·signed bits ⌝ }
 {
@@ -73,7 +73,7 @@ pub fn unsigned(z: i16) -> u16
     z as u16
 }
 
-// The signed number of two octets.
+// The signed number in two octets.
 pub fn s16_at(s: &[u8], at: usize) -> i16
     ensures { λ r. ⌜ r ≡ Octets·signed (number 2 (drop at (now (s .entry)))) ⌝ }
 {
@@ -81,7 +81,7 @@ pub fn s16_at(s: &[u8], at: usize) -> i16
     signed(bits)
 }
 
-// The number that a field of a width has: an s16 as its sixteen bits.
+// The number of a field of some width; an s16 is read as its sixteen bits.
 pub(crate) fn value_at(s: &[u8], at: usize, width: Width) -> u32
     ensures { λ r. ⌜ r ≡ number (octets-of width) (drop at (now (s .entry))) ⌝ }
 {
@@ -93,7 +93,7 @@ pub(crate) fn value_at(s: &[u8], at: usize, width: Width) -> u32
     }
 }
 
-// Writes one octet at a place.
+// Writes one octet at an index.
 pub(crate) fn put_u8(out: &mut [u8], at: usize, x: u8)
     ensures { λ r. ⌜ now (out .exit) ≡ placed (now (out .entry)) at (spelled 1 x) ⌝ }
 {
@@ -103,7 +103,7 @@ pub(crate) fn put_u8(out: &mut [u8], at: usize, x: u8)
     out[at] = x;
 }
 
-// Writes two octets from a place on.
+// Writes two octets, from an index on.
 pub(crate) fn put_u16(out: &mut [u8], at: usize, x: u16)
     ensures { λ r. ⌜ now (out .exit) ≡ placed (now (out .entry)) at (spelled 2 x) ⌝ }
 {
@@ -133,7 +133,7 @@ pub(crate) fn put_u32(out: &mut [u8], at: usize, x: u32)
     }
 }
 
-// Writes a number in the octets of a width: an s16 is given as its sixteen bits.
+// Writes a number in the octets of its width; an s16 is given as its sixteen bits.
 pub(crate) fn put_value(out: &mut [u8], at: usize, width: Width, x: u32)
     ensures { λ r. ⌜ now (out .exit) ≡ placed (now (out .entry)) at (spelled (octets-of width) x) ⌝ }
 {

@@ -43,7 +43,7 @@ pub struct Stroke {
     pub count: u16,
 }
 
-// One group of the cross trainer, two of the climbers.
+// One group of the cross trainer, two groups of the climbers.
 pub struct StepRates {
     pub rate: u16,
     pub average: u16,

@@ -41,7 +41,7 @@ pub fn is_payload(payload: usize) -> bool
     LEAST_PAYLOAD <= payload && payload <= GREATEST_PAYLOAD
 }
 
-// No record has more parts.
+// No record has more parts than this.
 pub const MOST_PARTS: usize = 16;
 
 // A part's length in octets, and the number of parts of its record.
@@ -55,13 +55,13 @@ pub enum SplitAnswer {
     Refused(Refusal),
 }
 
-// The groups of one part, bit 0 for the main one, and the number of parts.
+// The groups of one part (bit 0 stands for the main group), and the number of parts.
 struct Cut {
     set: u32,
     parts: usize,
 }
 
-// The longest run of the lowest groups of a set that fits in room octets.
+// The longest run of a set's lowest groups that fits in `room` octets.
 fn run(kind: u8, room: usize, set: u32) -> u32
     ensures { λ r. ⌜ r ≡ Split·run kind room set ⌝ }
 {
@@ -79,7 +79,7 @@ fn run(kind: u8, room: usize, set: u32) -> u32
     taken
 }
 
-// The set of the part that is asked for: that of this part, or the one found before.
+// The set of the part that is asked for: `next` if the part being cut is that one, otherwise the set found so far.
 fn chosen(parts: usize, part: usize, next: u32, set: u32) -> u32
     ensures { λ r. ⌜ r ≡ cond (eqb parts part) next set ⌝ }
 {
@@ -89,7 +89,7 @@ fn chosen(parts: usize, part: usize, next: u32, set: u32) -> u32
     set
 }
 
-// The groups of a part of a record, and the number of parts, at room octets beside the flags.
+// The groups of a part of a record, and the number of parts, with at most `room` octets after the flags of each.
 fn cut_at(kind: u8, groups: u32, room: usize, part: usize) -> Cut
     requires { ⌜ groups < 4294967295 ⌝ }
     ensures { λ r. ⌜ (r .set ≡ getD (cut kind room groups 16) part 0) × (r .parts ≡ length (cut kind room groups 16)) ⌝ }
@@ -113,7 +113,7 @@ fn cut_at(kind: u8, groups: u32, room: usize, part: usize) -> Cut
     Cut { set, parts }
 }
 
-// Writes a row's number from a place on, where the set names its group; the place after it.
+// Writes a row's number at an index, if the set names its group; returns the index after it.
 fn put_row(row: Row, set: u32, numbers: &[u32; 31], out: &mut [u8], at: usize) -> usize
     requires { ⌜ (row .1 < 31) × (at < 256) ⌝ }
     ensures { λ r. ⌜ r ≡ at + cond (Groups·has set (row .0)) (octets-of (row .2)) 0 ⌝ }
@@ -141,7 +141,7 @@ fn put_flags(kind: u8, set: u32, direction: u8, out: &mut [u8])
     }
 }
 
-// Writes the numbers of the groups of a set behind the flags, in the order of the wire.
+// Writes the numbers of a set's groups after the flags, in wire order.
 fn put_rows(kind: u8, set: u32, numbers: &[u32; 31], out: &mut [u8])
     ensures { λ r. ⌜ now (out .exit) ≡ placed (now (out .entry)) (flags-octets kind) (written (named set (layout kind)) (now (numbers .entry))) ⌝ }
 {
@@ -162,7 +162,7 @@ fn put_part(kind: u8, set: u32, direction: u8, numbers: &[u32; 31], out: &mut [u
     put_rows(kind, set, numbers, out);
 }
 
-// Writes a part of a record that is well formed, at a payload that is in range: refusals 15, then 14.
+// Writes a part of a well-formed record at a payload that is in range; refuses with 15, then 14.
 fn write_part(
     kind: u8,
     groups: u32,
@@ -191,7 +191,7 @@ fn write_part(
     SplitAnswer::Part(Extent { length, parts })
 }
 
-// A part of the record with these wire numbers: as `split`, for a caller that has the numbers.
+// Like `split`, for a caller that has the record's wire numbers.
 pub fn split_numbers(
     kind: u8,
     groups: u32,
@@ -216,8 +216,8 @@ pub fn split_numbers(
     write_part(kind, groups, direction, numbers, payload, part, out)
 }
 
-// A part of a record, counted from 0, at a payload: its octets in the lent buffer, its length and the number of parts, or the first of the
-// refusals 11, 12, 13, 15 and 14 that applies, which writes nothing.
+// Writes a part of a record, counted from 0, at a payload: its octets go to the lent buffer, and its length and the number of parts are
+// returned. A refusal is the first of 11, 12, 13, 15 and 14 that applies; it writes nothing.
 pub fn split(record: Record, payload: usize, part: usize, out: &mut [u8]) -> SplitAnswer
     ensures { λ r. ⌜ meant r ≡ split-of «record» payload part (length (now (out .entry))) ⌝ }
     ensures { λ r. ⌜ now (out .exit) ≡ lent-after «record» payload part (now (out .entry)) ⌝ }

@@ -17,7 +17,7 @@ use Rattle.service.proofs.Said.{tag, same-waiting, same-record, same-dr
 use Rattle.service.proofs.collector.open.Reads as open-reads
 use Rattle.service.proofs.collector.collect.Reads as collect-reads
 
--- ---- the meaning of an answer is the answer
+-- ---- an answer is determined by its meaning
 
 apart : {a b : Said} → a ≡ b → tag a ≡ tag b
 apart e = ap tag e

@@ -1,4 +1,4 @@
--- No second reply and no second console meets a contract of the control point: for each public function, over the contract itself.
+-- No second reply and no second console meets a contract of the control point: for each public function, on its own contract.
 use Prim.Native.Nat.{ℕ}
 use mathlib.Core.Path.{_≡_, refl, sym, ap}
 use mathlib.Core.List.{List}
@@ -30,7 +30,7 @@ outcome-meant Done (Refused b) r s u v e = absurd (never _ (number-of b) e)
 outcome-meant (Refused a) Done r s u v e = absurd (never _ (number-of a) (sym e))
 outcome-meant (Refused a) (Refused b) r s u v e = ap Refused (number-once a b (number-same (number-of a) (number-of b) e))
 
--- two replies that say the same are one
+-- two replies that say the same are equal
 pub reply-once : (x y : Reply) (z : Answer Sent × Console) → Says x z → Says y z → x ≡ y
 reply-once x y z p q =
     let e = ap (λ (a : Answer Sent × Console). a .0) (same (p .means) (q .means)) in

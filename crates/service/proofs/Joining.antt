@@ -38,7 +38,7 @@ module _ (c : Collection) (p : Part) (s : List ℕ) (dropped : Bool) where
   unfolding joins
   hands l i = rw (l, i)
 
-  -- what holds of each case holds of the step
+  -- what holds in each case holds for the step
   pub by-cases : (P : Stepped → Type 0) →
       (p .last ≡ false → P (record { said = waiting dropped; next = collection (c .kind) (c .told) held-now numbers-now })) →
       P (refuses c 34) →

@@ -10,7 +10,7 @@ use Rattle.record.proofs.Sets.{has-zero, has-half, mod-digit}
 use Rattle.record.proofs.Tests.{passed, failed, tested, eqb-false, eqb-eq, eqb-ne}
 use Rattle.service.specs.Collector.{lowest}
 
--- it is the bit below which there is none
+-- it is the bit below which there is no other
 pub lowest-at : (n b set : ℕ) → b < n → set % 2 ^ b ≡ 0 → has set b ≡ true → lowest n set ≡ 2 ^ b
 unfolding lowest
 lowest-at zero b set h z e = absurd (omega arith)
@@ -21,7 +21,7 @@ lowest-at (suc n) (suc b) set h z e =
     let ih : lowest n (set / 2) ≡ 2 ^ b = lowest-at n b (set / 2) (omega arith) (omega arith) (has-half set b ∙ e) in
     rw (d, ih, pow-suc 2 b) (omega arith)
 
--- a set with no bit among the first has none
+-- a set with no bit among the first n has none
 pub lowest-none : (n set : ℕ) → set % 2 ^ n ≡ 0 → lowest n set ≡ 0
 unfolding lowest
 lowest-none zero set z = refl
@@ -40,7 +40,7 @@ lowest-le (suc n) a = elim (tested (eqb (a % 2) 1)) [
   | failed e ↦ rw e (let h : lowest n (a / 2) ≤ a / 2 = lowest-le n (a / 2) in omega arith)
 ]
 
--- and at least the bit below which there is none
+-- and at least 2 ^ k if there is no bit below k
 pub lowest-ge : (n k a : ℕ) → 0 < a → a < 2 ^ n → a % 2 ^ k ≡ 0 → 2 ^ k ≤ lowest n a
 unfolding lowest
 lowest-ge zero k a h l d = absurd (omega arith)

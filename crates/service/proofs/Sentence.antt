@@ -1,4 +1,4 @@
--- Rule 2 of collecting, said of bits: `drops` says it of masks.
+-- Rule 2 of collecting, stated for bits: `drops` states it for masks.
 use Prim.Native.Nat.{ℕ, suc, _%_, _^_, _<_, _≤_}
 use mathlib.Core.Path.{_≡_, refl, sym, ap, _∙_}
 use mathlib.Core.Bool.{true, false, _&&_, true≢false}
@@ -14,7 +14,8 @@ use Rattle.service.specs.declared.collector.Told.the-variants.{Open, Fix
 use Rattle.service.specs.Collector.{drops, lowest}
 use Rattle.service.proofs.Lowest.{lowest-at}
 
--- "if fixed, when its lowest group is not above the highest held": where b is the lowest group of the part and c the highest held, held groups are dropped exactly when b is not above c
+-- "if fixed, when its lowest group is not above the highest held": with b the part's lowest group and c the highest held, groups are dropped exactly if b is
+-- not above c
 pub fixed-drops : (told held groups b c : ℕ) → b < 15 → groups % 2 ^ b ≡ 0 → has groups b ≡ true → 2 ^ c ≤ held → held < 2 ^ suc c →
     drops (Fixed told) held groups ≡ leb b c
 fixed-drops told held groups b c l z e h k =
@@ -26,19 +27,19 @@ fixed-drops told held groups b c l z e h k =
     either (passed t) = leb-true (le-trans (pow-mono (leb-le b c t)) h) ∙ sym t
     either (failed t) = leb-false (le-trans k (pow-mono (leb-lt b c t))) ∙ sym t
 
--- where nothing is held, nothing is dropped
+-- if nothing is held, nothing is dropped
 pub fixed-keeps : (told groups b : ℕ) → b < 15 → groups % 2 ^ b ≡ 0 → has groups b ≡ true → drops (Fixed told) 0 groups ≡ false
 fixed-keeps told groups b l z e =
     let n : eqb groups 0 ≡ false = eqb-false (λ (x : groups ≡ 0). true≢false (sym e ∙ ap (λ (g : ℕ). has g b) x ∙ has-empty b)) in
     rw (n, lowest-at 15 b groups l z e) (leb-false (pow-pos b))
 
--- "if open, when any of its groups is held": a group that is both drops
+-- "if open, when any of its groups is held": a group that is in both sets drops the held ones
 pub open-drops : (held groups b : ℕ) → has held b ≡ true → has groups b ≡ true → drops Open held groups ≡ true
 open-drops held groups b h g =
     let both : has (bitAnd held groups) b ≡ true = has-and held groups b ∙ rw (h, g) in
     rw (eqb-false (λ (x : bitAnd held groups ≡ 0). true≢false (sym both ∙ ap (λ (s : ℕ). has s b) x ∙ has-empty b)))
 
--- and where none is both, nothing is dropped
+-- and if no group is in both, nothing is dropped
 pub open-keeps : (held groups : ℕ) → ((b : ℕ) → has held b ≡ true → has groups b ≡ false) → drops Open held groups ≡ false
 open-keeps held groups none =
     let s : Sub (bitAnd held groups) 0 = record { member = λ i e. absurd (apart i (tested (has held i)) (sym (has-and held groups i) ∙ e)) } in

@@ -1,4 +1,4 @@
--- Collecting, rule by rule of document 01.
+-- Collecting, by document 01's rules.
 use Prim.Native.Nat.{ℕ, zero, suc, _*_, _/_, _%_}
 use mathlib.Core.Bool.{Bool, true, false, cond, not}
 use mathlib.Core.List.{List}
@@ -22,7 +22,7 @@ use Rattle.service.specs.declared.collector.Opened.{Opened}
 use Rattle.service.specs.declared.collector.Collected.{Collected}
 use Rattle.service.specs.declared.collector.Collected.the-variants as answers
 
--- what an answer means: waiting, a record, or this document's number for a refusal; and whether held groups were dropped unused
+-- what an answer means: waiting, a record, or document 01's number of a refusal; and whether held groups were dropped unused
 pub data Said : Type 0 where
   waiting : Bool → Said
   handed : Record → Bool → Said
@@ -78,7 +78,7 @@ incomplete Open held = false
 incomplete (Fixed told) held = not (eqb held told)
 
 module _ (c : Collection) where
-  -- "10 to 22 leave the state unchanged.": here 11, of a collection made by hand whose kind is none. "A refusal 30 to 34 leaves nothing held."
+  -- "10 to 22 leave the state unchanged.": here 11, for a collection made by hand with an unknown kind. "A refusal 30 to 34 leaves nothing held."
   abbrev pub after-refusal : ℕ → Collection
   after-refusal n = cond (leb n 22) c (empty (c .kind) (c .told))
 
@@ -97,11 +97,11 @@ module _ (c : Collection) where
       (record { said = handed (of-wire (c .kind) held (p .direction) v) dropped; next = empty (c .kind) (c .told) }))
       (record { said = waiting dropped; next = collection (c .kind) (c .told) held v })
 
-  -- a notification that the record layer reads
+  -- what a collection answers to a part that the record layer has read: 33, then the rules
   abbrev pub takes : Part → List ℕ → Stepped
   takes p s = cond (outside (c .told) (p .groups)) (refuses 33) (joins p s (drops (c .told) (c .held) (p .groups)))
 
-  -- what a collection answers to a notification: 11 and 30 to 32 as the record layer judges them, then 33, then the rules
+  -- what a collection answers to a notification: 11 and 30 to 32 as the record layer judges them, then as above
   abbrev pub answers-to : Answer Part → List ℕ → Stepped
   answers-to (Answer.refused n) s = refuses n
   answers-to (given p) s = takes p s
@@ -115,6 +115,6 @@ told-known kind (Fixed set) = within set (listed kind)
 unfoldable pub opens : ℕ → Told → Answer Collection
 opens kind told = provided (known kind) 11 (provided (told-known kind told) 35 (given (empty kind told)))
 
--- one notification
+-- what a collection answers to a notification, and the collection after it
 unfoldable pub collect : Collection → List ℕ → Stepped
 collect c s = answers-to c (part-of (c .kind) s) s

@@ -1,4 +1,4 @@
-// Collecting the parts of records: one notification at a time, with the state by value.
+// Collecting the parts of records, one notification at a time; the state is passed by value.
 use record::groups::BITS;
 use record::groups::has;
 use record::groups::is_known;
@@ -57,7 +57,7 @@ pub struct Step {
     pub next: Collection,
 }
 
-// The answer, and the groups held after it; the numbers are lent.
+// The answer, and the groups held after it; the numbers stay in the lent array.
 struct Taken {
     answer: Collected,
     held: u32,
@@ -73,7 +73,7 @@ fn is_listed(kind: u8, told: Told) -> bool
     }
 }
 
-// A collection that holds nothing; refusals 11, then 35.
+// Opens a collection, which holds nothing; refuses with 11, then 35.
 pub fn open(kind: u8, told: Told) -> Opened
     ensures { λ r. ⌜ meant-opening r ≡ opens kind told ⌝ }
     ensures { λ r. ⌜ r .collection ≡ empty kind told ⌝ }
@@ -149,7 +149,7 @@ fn incomplete(told: Told, held: u32) -> bool
     }
 }
 
-// The groups and numbers that are left where a part drops the held ones, or keeps them.
+// The groups and numbers that are left when a part drops the held ones, or keeps them.
 fn left(dropped: bool, held: u32, numbers: &mut [u32; 31]) -> u32
     ensures { λ r. ⌜ r ≡ cond dropped 0 held ⌝ }
     ensures { λ r. ⌜ now (numbers .exit) ≡ cond dropped zeros (now (numbers .entry)) ⌝ }
@@ -176,7 +176,7 @@ fn refuse(refusal: Refusal, held: u32, numbers: &mut [u32; 31]) -> Taken
     Taken { answer, held: none }
 }
 
-// A part that is read joins what is left of the held groups: waiting, refusal 34, or the record.
+// Joins a part to what is left of the held groups: the answer is waiting, refusal 34, or the record.
 fn join(
     kind: u8,
     told: Told,
@@ -209,7 +209,7 @@ fn join(
     }
 }
 
-// One notification, with the numbers lent: refusals 30 to 34 in that order, then the rules.
+// Takes one notification, with the numbers lent: the first of the refusals 11 and 30 to 33 that applies, otherwise the rules of collecting.
 fn take(kind: u8, told: Told, held: u32, notification: &[u8], numbers: &mut [u32; 31]) -> Taken
     ensures { λ r. ⌜ meant (r .answer) ≡ Collector·collect (collection kind told held (now (numbers .entry))) (now (notification .entry)) .said ⌝ }
     ensures { λ r. ⌜ collection kind told (r .held) (now (numbers .exit)) ≡ Collector·collect (collection kind told held (now (numbers .entry))) (now (notification .entry)) .next ⌝ }

@@ -45,13 +45,13 @@ pub struct Console {
     pub awaited: Who,
 }
 
-// What became of a call.
+// Whether a call was done or refused.
 pub enum Outcome {
     Done,
     Refused(Refusal),
 }
 
-// What a call gives: the outcome, the response octets, the status octets, and the console after it. What a call does not give is empty.
+// The reply to a call: the outcome, the response octets, the status octets (either may be empty), and the console after it.
 pub struct Reply {
     pub outcome: Outcome,
     pub response: Counted,
@@ -99,7 +99,7 @@ fn opened(setup: Setup) -> Console
     }
 }
 
-// What stands where opening is refused: a console that supports no target setting and has every range at 0.
+// The console in a reply that refuses to open one: it supports no target setting, and every range is 0 to 0.
 fn closed() -> Console
     ensures { λ r. ⌜ r ≡ Console·closed ⌝ }
 {
@@ -135,7 +135,7 @@ fn response(op: u8, result: WriteResult) -> Counted
 }
 
 impl Console {
-    // Opens a console with the octets of a Feature value and the machine's ranges: 22, then 16.
+    // Opens a console with the octets of a Feature value and the machine's ranges; refuses with 22, then 16.
     pub fn open(feature: &[u8], ranges: Ranges) -> Reply
         ensures { λ r. ⌜ Says r (opens (opening (now (feature .entry)) ranges)) ⌝ }
     {
@@ -154,7 +154,7 @@ impl Console {
         }
     }
 
-    // A client of the four.
+    // The state of one of the four clients.
     fn client_at(self, client: u8) -> Client
         requires { ⌜ client ≤ 3 ⌝ }
         ensures { λ r. ⌜ r ≡ client-at self client ⌝ }
@@ -164,7 +164,7 @@ impl Console {
         clients[c]
     }
 
-    // The console with another client in a client's place.
+    // The console with a new state of a client.
     fn with(mut self, client: u8, state: Client) -> Console
         requires { ⌜ client ≤ 3 ⌝ }
         ensures { λ r. ⌜ r ≡ with-client self client state ⌝ }
@@ -174,7 +174,7 @@ impl Console {
         self
     }
 
-    // A client connects, with indications off: 10, 17.
+    // A client connects, with indications off; refusals 10, 17.
     pub fn connect(self, client: u8) -> Reply
         ensures { λ r. ⌜ Says r (connects self client) ⌝ }
     {
@@ -192,7 +192,7 @@ impl Console {
         accepted(self.with(client, joined))
     }
 
-    // A client disconnects, which frees control that it holds, its indications and its awaited response: 10, 17.
+    // A client disconnects, which frees control that it holds, its indications and its awaited response; refusals 10, 17.
     pub fn disconnect(self, client: u8) -> Reply
         ensures { λ r. ⌜ Says r (disconnects self client) ⌝ }
     {
@@ -215,7 +215,7 @@ impl Console {
         })
     }
 
-    // A client's indications go on or off, which leaves an awaited response due: 10, 17.
+    // A client turns its indications on or off, which leaves an awaited response due; refusals 10, 17.
     pub fn indicate(self, client: u8, on: bool) -> Reply
         ensures { λ r. ⌜ Says r (indicates self client on) ⌝ }
     {
@@ -233,7 +233,7 @@ impl Console {
         accepted(self.with(client, turned))
     }
 
-    // A client confirms the response that is due to it: 10, 17, 21.
+    // A client confirms the response that is due to it; refusals 10, 17, 21.
     pub fn confirm(self, client: u8) -> Reply
         ensures { λ r. ⌜ Says r (confirms self client) ⌝ }
     {
@@ -257,7 +257,7 @@ impl Console {
         })
     }
 
-    // A client writes an op code and its parameter: 10, 17, 18, 19, 20, or a response that awaits confirmation, and status octets where it succeeds.
+    // A client writes an op code and its parameter; refusals 10, 17, 18, 19, 20. The response awaits confirmation; success may give status octets.
     pub fn write(self, client: u8, octets: &[u8]) -> Reply
         ensures { λ r. ⌜ Says r (writes self client (now (octets .entry))) ⌝ }
     {

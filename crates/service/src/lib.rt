@@ -1,3 +1,3 @@
-// The collector and the control point, above the record layer and on its promise alone.
+// The collector and the control point, which rely on the record layer's contracts only.
 pub mod collector;
 pub mod control;

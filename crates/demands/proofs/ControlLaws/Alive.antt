@@ -45,13 +45,13 @@ writes-well k c o p h = rw (ltb-false 3 c (h .small), h .joined, eqb·suc-zero (
 
 -- ---- disconnect, connect, indications on
 
--- a client that has gone
+-- a client that is disconnected
 record Away (k : Console) (c : ℕ) (w : Who) : Type 0 where
   four : length (k .clients) ≡ 4
   away : is-connected k c ≡ false
   waits : k .awaited ≡ w
 
--- and one that has come back
+-- and one that is back, with indications on
 record Back (k : Console) (c : ℕ) (w : Who) : Type 0 where
   joined : is-connected k c ≡ true
   shown : is-indicating k c ≡ true
@@ -101,7 +101,7 @@ module _ (k : Console) (s : Sound k) (c : ℕ) (h : c ≤ 3) (past : List Event)
   unfolding run
   comes-back = comes (disconnects k c .1) c h (goes k c h s)
 
-  -- after disconnect and connect and turning indications on, a client can write again unless another client's response awaits
+  -- after disconnect, connect and turning indications on, a client can write again unless another's response is awaited
   pub back-again : someone (without (k .awaited) c) ≡ false → Heard (run service k past (back c) .1) c
   back-again f = record { small = h; joined = comes-back .joined; shown = comes-back .shown; clear = rw (comes-back .waits) f }
 
@@ -140,7 +140,7 @@ never-stuck k s c h = from (k .awaited) refl
           (rw (confirms-well k s d e .1)),
     )
 
--- so after any sequence of calls from opening
+-- and so after any sequence of calls from opening on
 pub alive-after : (o : Opening) (k : Console) → opened o ≡ given k → (qs : List Call) → (c : ℕ) → c ≤ 3 →
     (more : List Call) × Heard (run service (run service k [] qs .1) [] more .1) c
 alive-after o k e qs c h = never-stuck (run service k [] qs .1) (sound-after o k e qs) c h

@@ -36,7 +36,7 @@ use Rattle.demands.proofs.ControlLaws.Kept.{run-keeps}
 use Rattle.demands.proofs.ControlLaws.History.{holder-by-history}
 use Rattle.demands.proofs.ControlLaws.Remembered.{mode-by-history, awaited-by-history, connected-by-history, indicating-by-history}
 
--- 01 alone is a success
+-- only 01 is a success
 success-01 : (r : WriteResult) → succeeds r ≡ eqb (result-number r) 0x01
 success-01 Success = refl
 success-01 NotSupported = refl
@@ -44,7 +44,7 @@ success-01 InvalidParameter = refl
 success-01 OperationFailed = refl
 success-01 ControlNotPermitted = refl
 
--- a console of which the history says everything
+-- a console that is what the history says
 record Told (s : Setup) (past : List Event) (k : Console) : Type 0 where
   setup-so : k .machine .setup ≡ s
   holder-so : k .machine .holder ≡ holder-by past []
@@ -112,7 +112,7 @@ module _ (s : Setup) (past : List Event) (k : Console) (t : Told s past k) where
     ]
   ]
 
--- what a machine is opened with, and has from then on
+-- the setup of a console is what it was opened with
 opened-so : (o : Opening) (f : Feature) (k : Console) → feature-of (o .feature) ≡ given f → opened o ≡ given k → k .machine .setup ≡ setup-of f o
 unfolding opened
 opened-so o f k e h =

@@ -131,7 +131,7 @@ fixed-stepped k (granted c o p i x e g) = fixed-done (k .machine) c p (x .act)
 pub fixed-at-opening : (k : Console) (q : Call) → step k q .1 .machine .setup ≡ k .machine .setup
 fixed-at-opening k q = fixed-stepped k (steps k q)
 
--- so after any sequence of calls from opening the machine has the ranges that it was opened with
+-- so after any sequence of calls from opening on, the machine has what it was opened with
 pub setup-after : (o : Opening) (k : Console) → opened o ≡ given k → (qs : List Call) →
     (f : Feature) × (run service k [] qs .1 .machine .setup ≡ setup-of f o)
 setup-after o k e qs =

@@ -39,7 +39,7 @@ use Rattle.demands.proofs.ControlLaws.Steps.{responding, Stepped, refus
 
 -- ---- clients
 
--- another client in a client's place: what is there, and what is elsewhere
+-- a new state of a client: what that client is then, and what the others are
 module _ (l : List Link) (n : length l ≡ 4) (c : ℕ) (h : c ≤ 3) (x : Link) where
   pub here : getD (set l c x) c absent ≡ x
   here = getD-set-same l c x absent (omega arith)
@@ -47,7 +47,7 @@ module _ (l : List Link) (n : length l ≡ 4) (c : ℕ) (h : c ≤ 3) (x : Link)
   there : (d : ℕ) → eqb d c ≡ false → getD (set l c x) d absent ≡ getD l d absent
   there d e = getD-set-other l c d x absent (eqb-ne d c e)
 
-  -- a client that is connected stays so, where that one is; or where it is another
+  -- a connected client stays connected, if the new state is connected; or if it is another
   still : x .connected ≡ true → (w : Who) → Present l w → Present (set l c x) w
   still t Nobody p = tt
   still t (Client d) p = elim (tested (eqb d c)) [
@@ -158,7 +158,7 @@ sound-first s = record {
   right = λ o. at-zero (zero-at o);
 }
 
--- what opening gives
+-- the console that opening gives
 pub opened-first : (o : Opening) (k : Console) → opened o ≡ given k → (f : Feature) × (k ≡ first (setup-of f o))
 unfolding opened
 opened-first o k e = from (feature-of (o .feature)) e

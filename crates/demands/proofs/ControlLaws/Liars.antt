@@ -1,4 +1,4 @@
--- Control points that are wrong in one thing, in the console that they keep or in an answer: each breaks the law of that thing.
+-- Control points that are wrong in one respect, in the console that they keep or in an answer: each breaks the law about that.
 use Prim.Native.Nat.{ℕ}
 use mathlib.Core.Path.{_≡_, refl, sym, ap}
 use mathlib.Core.Bool.{Bool, true, false, cond, not, true≢false}
@@ -35,7 +35,7 @@ use Rattle.demands.proofs.ControlLaws.Meets.{plain, opens-so}
 abbrev able-console : Console
 able-console = first (record { feature = record { features = 0; targets = 0x1FFFF }; ranges = fair })
 
--- the service, but that a call and the console before it alter the console after it
+-- the service, except that the console after a call is altered, by the call and the console before it
 abbrev pub altered : (Call → Console → Console → Console) → Point Console
 altered f = record { opening = opened; calling = λ k q. (step k q .0, f q k (step k q .1)) }
 
@@ -106,7 +106,7 @@ gone-due-refuted h = true≢false (ap someone (h plain closed opens-so (ready 0 
 
 -- ---- who is connected, and whose indications are on
 
--- a client that has gone stays connected, with its indications as they were
+-- a client that disconnects stays connected, with its indications as they were
 abbrev stays : Call → Console → Console → Console
 stays (connect c) before after = after
 stays (disconnect c) before after = record { machine = after .machine; clients = before .clients; awaited = after .awaited }
@@ -142,7 +142,7 @@ on-at-connect-refuted h = true≢false (h 0 plain closed opens-so (connect 0 ∷
 
 -- ---- who holds control, and the settings
 
--- a client that has gone keeps control
+-- a client that disconnects keeps control
 abbrev in-control : Console → Console → Console
 in-control before after = record { machine = held-by (after .machine) (before .machine .holder); clients = after .clients; awaited = after .awaited }
 
@@ -160,7 +160,7 @@ pub gone-holding-refuted : HolderByHistory gone-holding → ⊥
 unfolding run connects disconnects indicates confirms writes op-code fit judged number holder-by
 gone-holding-refuted h = true≢false (ap someone (h plain closed opens-so (holds 0 ++ disconnect 0 ∷ [])))
 
--- settings as they were before a write: of one op code, or of any but a reset
+-- the settings as they were before a write, for the op codes that a test picks
 abbrev with-settings : Console → Console → Console
 with-settings before after = record { machine = storing (after .machine) (before .machine .settings); clients = after .clients; awaited = after .awaited }
 
@@ -207,11 +207,11 @@ never-refuted h =
     let e : _≡_ {A = Answer Console} (refused 0) (given (x .0)) = x .1 in
     let z : _≡_ {A = ℕ} 0 1 = cc in omega arith
 
--- the service, but that the console before a call alters the answer to it
+-- the service, except that the answer to a call is altered, by the console before it
 abbrev pub retold : (Call → Console → Answer Sent → Answer Sent) → Point Console
 retold f = record { opening = opened; calling = λ k q. (f q k (step k q .0), step k q .1) }
 
--- a write alone
+-- alters the answers to writes only
 abbrev of-write : (ℕ → List ℕ → Console → Answer Sent → Answer Sent) → Call → Console → Answer Sent → Answer Sent
 of-write f (connect c) before a = a
 of-write f (disconnect c) before a = a

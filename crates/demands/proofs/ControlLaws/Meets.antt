@@ -1,4 +1,4 @@
--- The service answers as the service; whoever keeps a console of its own that moves alike does too; and who never answers 01 does not.
+-- The service answers as the service; so does one that keeps a console that moves alike; and one that never answers 01 does not.
 use Prim.Native.Nat.{ℕ}
 use mathlib.Core.Path.{_≡_, refl, sym, ap, ap₂, _∙_}
 use mathlib.Core.Bool.{true}
@@ -18,7 +18,7 @@ use Rattle.service.specs.Control.Calls.{Opening, opened, connects, indicates, w
 use Rattle.demands.specs.Control.Point.{Call, connect, disconnect, confirm, indicate, write, Point, service, Event, event, latest, step, run, Answers}
 use Rattle.demands.specs.Control.Laws.{result-in}
 
--- ---- how to show it of code: its states are read as consoles, and each call moves the console that its state is read as
+-- ---- how to show it for code: its states are read as consoles, and each call changes the console that its state is read as
 
 abbrev pub read-opening : {S : Type 0} → (S → Console) → Answer S → Answer Console
 read-opening f (refused n) = refused n
@@ -71,7 +71,7 @@ module _ {S R : Type 0} (p : Point S) (r : Point R) (a : Answers p) (b : Answers
 
 -- ---- wrong ones
 
--- a machine with no target setting, and every range at 0
+-- a machine with no target setting, and every range 0 to 0
 abbrev pub plain : Opening
 plain = record { feature = 0 ∷ 0 ∷ 0 ∷ 0 ∷ 0 ∷ 0 ∷ 0 ∷ 0 ∷ []; ranges = closed .machine .setup .ranges }
 
@@ -107,7 +107,7 @@ module _ {S : Type 0} (p : Point S) where
   pub not-always-02 : ((x : S) (c o : ℕ) (s : List ℕ) → result-in (p .calling x (write c (o ∷ s)) .0) ≡ result-number NotSupported) → Answers p → ⊥
   not-always-02 h = not-never-01 (λ x c o s e. let z : _≡_ {A = ℕ} 2 1 = sym (h x c o s) ∙ e in omega arith)
 
--- there is one
+-- such a control point
 abbrev says-02 : Call → Answer Sent
 says-02 (connect c) = sent [] []
 says-02 (disconnect c) = sent [] []

@@ -14,7 +14,7 @@ use Rattle.service.specs.Control.OpCodes.{op-code}
 use Rattle.service.specs.Control.Judging.{result-number, succeeds}
 use Rattle.service.proofs.ControlLaws.Rule.{table-rule}
 
--- 00 alone takes control, and 01 alone resets
+-- only 00 takes control, and only 01 resets
 abbrev pub Number : ℕ → Act → Type 0
 Number o TakesControl = o ≡ 0x00
 Number o Resets = o ≡ 0x01

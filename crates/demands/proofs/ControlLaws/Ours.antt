@@ -1,4 +1,4 @@
--- What runs: answers that meet the contracts of the code. They are the service's, so that every law of the service is one of the code.
+-- The code that runs: answers that meet its contracts are the service's, so that every law of the service is a law of the code.
 use Prim.Native.Nat.{ℕ, _≤_}
 use mathlib.Core.Path.{_≡_, refl, sym, ap, _∙_}
 use mathlib.Core.Logic.{_⊎_}
@@ -88,7 +88,7 @@ module _ {k : Console} {q : Call} {x : Answer Sent × Console} (d : Did k q x) w
   pub ours-keeps : Sound k → Sound (x .1)
   ours-keeps s = rw (steps-alike d) (sound-step k q s)
 
--- a write of an op code that stores succeeds for the holder alone
+-- a write of an op code that stores succeeds only for the holder
 pub ours-to-holder : {k : Console} {c o : ℕ} {p : List ℕ} {x : Answer Sent × Console} → Did k (write c (o ∷ p)) x → stores (op-code o) ≡ true →
     result-in (x .0) ≡ result-number Success → k .machine .holder ≡ Client c
 ours-to-holder {k} {c} {o} {p} d t h = granted-to-holder k c o p t (rw (steps-alike d) at h)
@@ -120,8 +120,8 @@ runs-alike over = refl
 runs-alike {past = past} (then {q = q} {qs = qs} d r) =
     runs-alike r ∙ ap (λ (x : Answer Sent × Console). run service (x .1) (event q (x .0) ∷ past) qs) (steps-alike d)
 
--- after any sequence of calls from an opening, what happened and the console: it is sound; its holder, mode, awaited response, clients and each
--- setting are those of what happened; and each client can be brought to write again
+-- after any sequence of calls from an opening on, what happened and the console: it is sound; its holder, mode, awaited response, clients and
+-- each setting are what the history says; and each client can be brought to write again
 pub record Lawful (z : List Event × Console) : Type 0 where
   pub sound : Sound (z .1)
   pub holder-so : z .1 .machine .holder ≡ holder-by (z .0) []

@@ -1,4 +1,4 @@
--- A setting that is stored is read again as it was written, and no other setting changes by it.
+-- A setting that is stored is read back as it was written, and changes no other setting.
 use Prim.Native.Nat.{ℕ, zero, suc, _+_, _-_, _≤_}
 use mathlib.Core.Path.{_≡_, refl, sym, ap, _∙_}
 use mathlib.Core.Logic.{_⊎_, inl, inr}
@@ -23,7 +23,7 @@ use Rattle.service.specs.Control.Effects.{Room, part, setting-of, setting}
 use Rattle.service.proofs.ControlLaws.Rule.{on-line, table-rule, room-for}
 use Rattle.demands.specs.Control.Laws.{keeps, zero-setting}
 
--- ---- octets from a place on, where others are written before or after them, or over them
+-- ---- octets from an index on, with others written before them, after them or over them
 
 before-set : (l : List ℕ) (i x a n : ℕ) → a + n ≤ i → take n (drop a (set l i x)) ≡ take n (drop a l)
 before-set l i x a n h =

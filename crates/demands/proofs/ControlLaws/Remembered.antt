@@ -39,7 +39,7 @@ use Rattle.demands.proofs.ControlLaws.Numbers.{not-01}
 use Rattle.demands.proofs.ControlLaws.Steps.{Stepped, refusal, connected, gone, indicated, confirmed, denied, granted, steps}
 use Rattle.demands.proofs.ControlLaws.Kept.{here, sound-step, all-absent, sound-first, opened-first}
 
--- ---- what each event makes of it, all events make of it
+-- ---- what holds for each event holds for all events
 
 module _ {A : Type 0} (read : Console → A) (says : List Event → A) (next : Event → A → A)
     (one : (k : Console) (q : Call) → Sound k → read (step k q .1) ≡ next (event q (step k q .0)) (read k))
@@ -65,7 +65,7 @@ next-mode e before =
     (cond (succeeded 0x07 e) Running
     (cond (succeeded 0x08 e) (halted (number 1 (parameter (e .call))) before) before))
 
--- 01 alone resets, 07 alone starts, and 08 alone halts, with 1 or 2
+-- only 01 resets, only 07 starts, and only 08 halts, with 1 or 2
 abbrev one-or-two : Bound → Bool
 one-or-two Free = false
 one-or-two Speed = false
@@ -187,7 +187,7 @@ next-link : ℕ → Event → Link → Link
 next-link d e before =
     cond (did d e) (record { connected = joined (e .call) (before .connected); indicating = shown (e .call) (before .indicating) }) before
 
--- a client that a call puts in a client's place, or leaves
+-- the state of a client after a call, which sets it or leaves it
 module _ (k : Console) (s : Sound k) (c d : ℕ) (h : c ≤ 3) where
   put : (x y : Link) → (eqb c d ≡ true → x ≡ y) → getD (set (k .clients) c x) d absent ≡ cond (eqb c d) y (client-at k d)
   put x y f = elim (tested (eqb c d)) [

@@ -1,4 +1,4 @@
--- The table of op codes says what document 01's sentences say, of every octet.
+-- The table of op codes says what document 01's sentences say, for every octet.
 use Prim.Native.Nat.{ℕ, zero, suc, _+_, _≤_, _<_}
 use mathlib.Core.Path.{_≡_, refl, sym, ap, _∙_}
 use mathlib.Core.Bool.{Bool, true, false, cond, not, _&&_, _||_}
@@ -46,7 +46,7 @@ module _ {A : Type 0} (f g : ℕ → A) where
       let n : getD octets o 0 ≡ o = counting-at 0 256 o 0 (omega arith) ∙ omega arith in
       ap f (sym n) ∙ on-list octets e o 0 (omega arith) ∙ ap g n
 
--- ---- each sentence, of whatever the table says of an octet
+-- ---- each sentence, for what the table says about an octet
 
 abbrev supported-by : Feature → Lookup → Bool
 supported-by f (Known x) = supports f (x .need)
@@ -91,7 +91,7 @@ module _ (m : Machine) (c : ℕ) where
   unfolding op-code
   holder-so p = every (λ o. success m c (op-code o) p .holder) (λ o. rule.holder o c (m .holder)) refl
 
-  -- of a parameter that 08 may have
+  -- for the parameters that 08 may have
   pub stop-so : (o : ℕ) → o ≤ 255 → success m c (op-code o) (1 ∷ []) .mode ≡ rule.mode o 1 (m .mode)
   unfolding op-code number
   stop-so = every (λ o. success m c (op-code o) (1 ∷ []) .mode) (λ o. rule.mode o 1 (m .mode)) refl
@@ -114,7 +114,7 @@ pub storing-so : (o : ℕ) → o ≤ 255 → stores (op-code o) ≡ rule.storing
 unfolding op-code
 storing-so = every (λ o. stores (op-code o)) rule.storing refl
 
--- ---- the places of the settings: no two overlap, and together they are the room
+-- ---- the places of the settings: no two overlap, and together they are all 49 octets
 pub apart-so : all (λ a. all (rule.apart a) (picked rule.storing octets)) (picked rule.storing octets) ≡ true
 apart-so = refl
 
@@ -195,7 +195,7 @@ module _ (m : Machine) (c : ℕ) (p : List ℕ) where
   numbered true true true false = refl
   numbered true true true true = refl
 
-  -- "A write is judged in this order": the result's number, of every machine, client, octet and parameter
+  -- "A write is judged in this order": the result, for every machine, client, octet and parameter
   pub result-so : (o : ℕ) → o ≤ 255 → result-number (result m c o p) ≡ rule.result (m .setup) (m .holder) (m .mode) c o p
   result-so o h =
       let s : supported-by (m .setup .feature) (op-code o) ≡ rule.supported (m .setup .feature .targets) o = supported-so (m .setup .feature) o h in

@@ -44,7 +44,7 @@ next o e before = cond (succeeded 0x01 e) (zero-setting (op-code o)) (cond (succ
 module _ (m : Machine) (w : length (m .settings) ≡ 49) (c i : ℕ) (y : OpCode) (e : op-code i ≡ Known y) (p : List ℕ)
     (n : length p ≡ size (y .parameter)) where
   module _ (o : ℕ) (t : stores (op-code o) ≡ true) where
-    -- an op code that stores nothing is not the one whose setting it is
+    -- an op code that stores nothing is not the op code of this setting
     elsewhere : keeps (y .act) ≡ false → eqb i o ≡ false
     elsewhere f = eqb-false (λ (q : i ≡ o). true≢false (sym t ∙ ap (λ (j : ℕ). stores (op-code j)) (sym q) ∙ rw e f))
 
@@ -96,7 +96,7 @@ setting-by-history o k e qs i t =
 pub settings-remembered : SettingByHistory service
 settings-remembered i t o k e qs = setting-by-history o k e qs i t
 
--- ---- a write of an op code that stores succeeds for the holder alone
+-- ---- a write of an op code that stores succeeds only for the holder
 pub granted-to-holder : (k : Console) (c o : ℕ) (p : List ℕ) → stores (op-code o) ≡ true → result-in (writes k c (o ∷ p) .0) ≡ result-number Success →
     k .machine .holder ≡ Client c
 granted-to-holder k c o p t h = from (steps k (write c (o ∷ p))) h

@@ -1,4 +1,4 @@
--- What a call may come to: refused, or one of six ways to succeed. Every law of the control point goes by these cases.
+-- What a call may come to: a refusal, or one of six other cases. Every law of the control point is proved by them.
 use Prim.Native.Nat.{ℕ, _≤_}
 use mathlib.Core.Path.{_≡_, refl}
 use mathlib.Core.Bool.{Bool, true, false, cond}
@@ -26,7 +26,7 @@ use Rattle.record.proofs.Tests.{passed, failed, tested, ltb-le}
 use Rattle.demands.specs.Control.Point.{Call, connect, disconnect, confirm, indicate, write, step}
 use Rattle.demands.specs.Control.Laws.{Heard}
 
--- a console with another machine, whose client's response awaits confirmation
+-- a console with another machine, in which a client's response awaits confirmation
 abbrev pub responding : Console → Machine → ℕ → Console
 responding k m c = record { machine = m; clients = k .clients; awaited = Client c }
 

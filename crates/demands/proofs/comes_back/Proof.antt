@@ -1,4 +1,4 @@
--- `comes_back` meets its contract: it is judged so. Assumes nothing.
+-- `comes_back` meets its contract: by `judged`. Assumes nothing.
 use mathlib.Core.Path.{refl}
 use mathlib.Core.Logic.{inl}
 use borrow.Author.Needs.{needs}

@@ -1,4 +1,4 @@
--- `deliver` meets its contract: what is lent holds the part, and the collection is handed that. Assumes nothing.
+-- `deliver` meets its contract: the lent buffer holds the part, and the collection gets that. Assumes nothing.
 use Prim.Native.Nat.{ℕ, _≤_}
 use mathlib.Core.Path.{_≡_, sym, ap, ap₂, _∙_}
 use native.Mathlib.Omega.{arith}
@@ -27,7 +27,7 @@ the-length : (c : tie.After-extent) →
     let a = c .before .before .before .before .before .args in c .extent .given .0 .0 .length ≡ length (part-octets (a .«record») (a .payload) (a .part))
 the-length c = ap length-of (sym (ap meant (c .extent .given .1)) ∙ the-answer (c .before .before .before))
 
--- what is lent is as long as before
+-- the lent buffer is as long as before
 as-long : (c : tie.After-split) → length (c .split .last .1 .1 .1 .0) ≡ 512
 as-long c = c .split .kept .1 .1 .1 .0
 
@@ -39,7 +39,7 @@ fits c =
     let h : length (part-octets (a .«record») (a .payload) (a .part)) ≤ 512 = part-short (a .«record») (s .pre .0) (a .payload) (s .pre .1) (a .part) (s .pre .2) in
     omega (arith, the-length c, as-long p)
 
--- its front is the part
+-- it begins with the part
 the-front : (c : tie.After-extent) →
     let p = c .before .before .before in
     let a = p .before .before .args in

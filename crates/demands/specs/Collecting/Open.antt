@@ -1,5 +1,5 @@
--- Open collections: "Held groups are dropped, if open, when any of its groups is held". Most are of an indoor bike's average speed (flags 02), cadence (04)
--- and average cadence (08); flags with 01 are those of a part with More Data 1.
+-- Open collections: "Held groups are dropped, if open, when any of its groups is held". Most use an indoor bike's average speed (flags 02), cadence (04)
+-- and average cadence (08); flags with 01 have More Data 1.
 use mathlib.Core.Bool.{true, false}
 use mathlib.Core.List.{List, [], _∷_}
 use lib.ListN.{replicate}

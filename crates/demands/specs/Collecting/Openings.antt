@@ -1,4 +1,4 @@
--- Openings: "opening a collection 11, 35"; "35: told set has a bit not listed for the kind". And a collection made by hand, whose kind is none.
+-- Openings: "opening a collection 11, 35"; "35: told set has a bit not listed for the kind". And a collection made by hand, of an unknown kind.
 use Prim.Native.Nat.{ℕ, _^_}
 use mathlib.Core.Bool.{true}
 use mathlib.Core.List.{List, [], _∷_, map}

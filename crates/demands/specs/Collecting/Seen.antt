@@ -11,13 +11,13 @@ use Rattle.service.specs.declared.collector.Collection.{Collection}
 use Rattle.service.specs.declared.collector.Told.{Told}
 use Rattle.service.specs.Collector.{Said, waiting, handed, refused, Stepped, empty, collect}
 
--- "waiting", a record with these groups, this direction and these values in the order of the wire, or a refusal; and whether held groups were dropped
+-- "waiting", a record with these groups, this direction and these values in wire order, or a refusal; and whether held groups were dropped
 pub data Heard : Type 0 where
   waits : Bool → Heard
   hands : ℕ → ℕ → List ℕ → Bool → Heard
   refuses : ℕ → Bool → Heard
 
--- the wire numbers of a record's present fields; none where it is not well formed
+-- the wire numbers of a record's present fields; none if it is not well formed
 abbrev pub values-in : Record → List ℕ
 values-in r = cond (well-formed r) (map (λ row. getD (wire r) (row .1) 0) (named (1 + r .groups) (layout (r .kind)))) []
 
@@ -49,6 +49,6 @@ in-turn c (r ∷ rows) =
     let x : Stepped = collect c (r .notification) in
     (r .notification answered heard (x .said) holding x .next .held) ∷ in-turn (x .next) rows
 
--- what a case finds, beside what it must find
+-- the rows that a case gives, to be compared with its own
 abbrev pub found : Case → List Row
 found k = in-turn (k .start) (k .rows)

@@ -1,4 +1,4 @@
--- Every answer by what has happened alone: the control point a second time, by its history and by the rules of the op codes, and by no console.
+-- Every answer from the history alone: the control point a second time, by what has happened and the rules of the op codes, without a console.
 use Prim.Native.Nat.{ℕ, suc, _≤_}
 use mathlib.Core.Path.{_≡_}
 use mathlib.Core.Bool.{Bool, cond, not, _||_}
@@ -25,7 +25,7 @@ module _ (s : Setup) (past : List Event) where
   abbrev pub present : ℕ → Answer Sent → Answer Sent
   present c x = cond (ltb 3 c) (refused 10) (cond (not (connected-by c past)) (refused 17) x)
 
-  -- "Response: 80, op code, result."; status octets where the result is 01
+  -- "Response: 80, op code, result."; status octets if the result is 01
   abbrev pub response-by : ℕ → ℕ → List ℕ → Answer Sent
   response-by c o p =
       let n : ℕ = result s (holder-by past []) (mode-by past) c o p in
@@ -64,11 +64,11 @@ reversed r =
     (ltZ (r .resistance .greatest) (r .resistance .least) ||
     (ltZ (r .power .greatest) (r .power .least) || ltb (r .«heart_rate» .greatest) (r .«heart_rate» .least))))
 
--- "opening a machine 22, 16"; "22: Feature value not 8 octets": the refusal of an opening, 0 where it is not refused
+-- "opening a machine 22, 16"; "22: Feature value not 8 octets": the refusal number of an opening, 0 if it is not refused
 abbrev pub refusal-by : Opening → ℕ
 refusal-by o = cond (not (eqb (length (o .feature)) 8)) 22 (cond (reversed (o .ranges)) 16 0)
 
--- a control point that refuses these openings and no others, and whose next answer, after every sequence of calls, is the one that this says
+-- a control point that refuses these openings and no others, and whose next answer, after every sequence of calls, is that of `answer-by`
 pub record AnswersByHistory {S : Type 0} (p : Point S) : Type 0 where
   pub refuses : (o : Opening) (n : ℕ) → refusal-by o ≡ suc n → p .opening o ≡ refused (suc n)
   pub opens : (o : Opening) → refusal-by o ≡ 0 → (x : S) × (p .opening o ≡ given x)

@@ -1,4 +1,4 @@
--- Worked cases of the control point, the one marked P first, in one table: what is called from opening, and the last answer.
+-- Worked cases of the control point, the one marked P first, in one table: the calls from opening on, and the last answer.
 use Prim.Native.Nat.{ℕ}
 use mathlib.Core.Bool.{true}
 use mathlib.Core.List.{List, [], _∷_, _++_, map}
@@ -10,7 +10,7 @@ use Rattle.service.specs.Control.Replies.{Sent, sent}
 use Rattle.service.specs.Control.Calls.{opening, opened}
 use Rattle.demands.specs.Control.Point.{Call, connect, confirm, indicate, write, service, latest, run}
 
--- ranges, and a machine with every target bit but 5, energy
+-- ranges, and a machine with every target bit except 5, energy
 abbrev pub ranges : Ranges
 ranges = record {
   speed = record { least = 100; greatest = 2000 };
@@ -23,7 +23,7 @@ ranges = record {
 abbrev pub console : Answer Console
 console = opened (opening (0 ∷ 0 ∷ 0 ∷ 0 ∷ 0xdf ∷ 0xff ∷ 0xff ∷ 0xff ∷ []) ranges)
 
--- the answer to the last of some calls, from opening
+-- the answer to the last of the calls from opening on
 abbrev pub answer-to : Answer Console → List Call → Answer Sent
 answer-to (refused n) qs = refused n
 answer-to (given k) qs = latest (run service k [] qs .0)
@@ -76,7 +76,7 @@ cases =
     (ready 0 ++ write 0 (7 ∷ []) ∷ ready 1 ++ write 1 (0 ∷ []) ∷ [] gives refused 20) ∷
     (holds 0 ++ confirm 0 ∷ [] gives refused 21) ∷ []
 
--- what each case is answered, and what it must be
+-- the answer to each case, and the expected answer
 abbrev pub answered : List (Answer Sent)
 answered = map (λ x. answer-to console (x .calls)) cases
 

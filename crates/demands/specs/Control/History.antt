@@ -1,4 +1,4 @@
--- What a console's state is by what has happened alone: the calls, the newest first, and the answers to them.
+-- A console's state from what has happened alone: the calls, the newest first, and the answers to them.
 use Prim.Native.Nat.{ℕ}
 use mathlib.Core.Path.{_≡_}
 use mathlib.Core.Bool.{Bool, true, false, cond, _&&_}
@@ -20,7 +20,7 @@ use Rattle.service.specs.Control.Calls.{Opening}
 use Rattle.demands.specs.Control.Point.{Call, connect, disconnect, confirm, indicate, write, Point, Event, run}
 use Rattle.demands.specs.Control.Laws.{stores, by, parameter, result-in, succeeded, holder-by, setting-by}
 
--- a call that was not refused, and one of this client
+-- a call that was not refused, and such a call by this client
 abbrev pub accepted : Event → Bool
 accepted e = eqb (refusal-of (e .answer)) 0
 
@@ -52,8 +52,8 @@ responded e = leb 0x01 (result-in (e .answer)) && leb (result-in (e .answer)) 0x
 abbrev pub no-longer : ℕ → Who → Who
 no-longer c w = cond (is w c) Nobody w
 
--- who is awaited after a call that was not refused: that client's confirm and its disconnect end it, "Disconnect frees .. its awaited response";
--- of indications, "turning them off leaves an awaited response due"
+-- whose response is awaited after a call that was not refused: that client's confirm or disconnect ends it, "Disconnect frees .. its awaited
+-- response"; for indications, "turning them off leaves an awaited response due"
 abbrev pub still-due : Call → Who → Who
 still-due (connect c) w = w
 still-due (disconnect c) w = no-longer c w
@@ -69,7 +69,7 @@ awaited-by (e ∷ past) =
 
 -- ---- who is connected, and whose indications are on
 
--- a client after a call of its own that was not refused
+-- whether a client is connected after a call of its own that was not refused
 abbrev pub joined : Call → Bool → Bool
 joined (connect c) before = true
 joined (disconnect c) before = false
@@ -96,7 +96,7 @@ indicating-by c (e ∷ past) = let before : Bool = indicating-by c past in cond 
 
 -- ---- the laws, of any control point that keeps a console
 
--- after every sequence of calls from opening, what is read of the console is what the history says
+-- after every sequence of calls from opening on, what is read from the console is what the history says
 abbrev pub ByHistory : Point Console → {A : Type 0} → (Console → A) → (List Event → A) → Type 0
 ByHistory p read says = (o : Opening) (k : Console) → p .opening o ≡ given k → (qs : List Call) → read (run p k [] qs .1) ≡ says (run p k [] qs .0)
 

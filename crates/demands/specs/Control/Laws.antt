@@ -1,4 +1,4 @@
--- What holds of a console after any sequence of calls from its opening: the statements that proofs/ proves of the service.
+-- What holds for a console after any sequence of calls from its opening on: the statements that proofs/ proves for the service.
 use Prim.Native.Nat.{ℕ, _≤_}
 use mathlib.Core.Path.{_≡_}
 use mathlib.Core.Logic.{_⊎_}
@@ -36,8 +36,8 @@ abbrev pub Present : List Link → Who → Type 0
 Present clients Nobody = Unit {0}
 Present clients (Client c) = getD clients c absent .connected ≡ true
 
--- "Clients are 0 to 3." "Disconnect frees control held by that client, its indications and its awaited response.": only a connected client
--- has indications on, is awaited, holds control. "Over all clients one response at most awaits confirmation.": `awaited` is one value.
+-- "Clients are 0 to 3." "Disconnect frees control held by that client, its indications and its awaited response.": only a connected client has
+-- indications on, is awaited or holds control. "Over all clients one response at most awaits confirmation.": `awaited` is one value.
 pub record Links (k : Console) : Type 0 where
   pub four : length (k .clients) ≡ 4
   pub indicating-connected : (c : ℕ) → is-indicating k c ≡ true → is-connected k c ≡ true
@@ -66,7 +66,7 @@ pub data Right (ranges : Ranges) : Lookup → List ℕ → Type 0 where
   at-zero : {l : Lookup} {p : List ℕ} → p ≡ zero-setting l → Right ranges l p
   set-to : {x : OpCode} {p : List ℕ} → length p ≡ size (x .parameter) → allowed ranges (x .bound) p ≡ true → Right ranges (Known x) p
 
--- what holds of every console to which calls have led: its clients, the room of its settings, and each setting
+-- what holds for every console that calls have led to: its clients, the length of its settings, and each setting
 pub record Sound (k : Console) : Type 0 where
   pub links : Links k
   pub room : length (k .machine .settings) ≡ 49
@@ -117,19 +117,19 @@ abbrev pub any : (Event → Bool) → List Event → Bool
 any f [] = false
 any f (e ∷ es) = f e || any f es
 
--- who has control that was given to this client, by what came after it
+-- who holds control that was given to this client, from what came after it
 abbrev pub unless-ended : List Event → Who → Who
 unless-ended since Nobody = Nobody
 unless-ended since (Client c) = cond (any (ends c) since) Nobody (Client c)
 
--- "00 gives control": the holder by what has happened, newest first, with what came after it: the last client whose 00 succeeded, if it has
--- had no successful reset and no disconnect since, otherwise nobody
+-- "00 gives control": the holder from what has happened, newest first, and from what came after it: the last client whose 00 succeeded, if it
+-- has had no successful reset and no disconnect since, otherwise nobody
 unfoldable pub holder-by : List Event → List Event → Who
 holder-by [] since = Nobody
 holder-by (e ∷ past) since = let before : Who = holder-by past (e ∷ since) in cond (succeeded 0x00 e) (unless-ended since (by (e .call))) before
 
--- "01 zeroes every setting", "02 to 06, 09 to 12 and 14 store the parameter octets": a setting by what has happened, newest first, is the
--- parameter of the last write of its op code that succeeded, if no reset has since, otherwise zero
+-- "01 zeroes every setting", "02 to 06, 09 to 12 and 14 store the parameter octets": a setting from what has happened, newest first: the
+-- parameter of the last write of its op code that succeeded, if no reset has succeeded since, otherwise zero
 unfoldable pub setting-by : ℕ → List Event → List ℕ
 setting-by o [] = zero-setting (op-code o)
 setting-by o (e ∷ past) =
@@ -153,13 +153,13 @@ pub record Unchanged (k : Console) (x : Answer Sent × Console) : Type 0 where
   pub no-status : status-of (x .0) ≡ []
   pub same : x .1 ≡ k
 
--- the holder did not make this call, nor did anyone else who holds control
+-- the call was not made by the client that holds control, if any does
 abbrev pub ByAnother : Console → Call → Type 0
 ByAnother k q = (c : ℕ) → k .machine .holder ≡ Client c → by q ≡ Client c → ⊥
 
--- a machine before and after a call that the holder did not make: settings, mode and what was fixed at opening stay. The holder
--- stays, but that a 00 that succeeds gives control to its client where nobody had it: "not the holder (but for 00), 05". (A disconnect of such
--- a client changes who is connected, its indications and its awaited response, and nothing else.)
+-- a machine before and after a call that the holder did not make: settings, mode and what was fixed at opening stay. The holder stays, except
+-- that a 00 that succeeds gives control to its client if nobody had it: "not the holder (but for 00), 05". (A disconnect of such a client
+-- changes who is connected, its indications and its awaited response, and nothing else.)
 pub record Spared (m : Machine) (w : Who) (n : Machine) : Type 0 where
   pub same-settings : n .settings ≡ m .settings
   pub same-mode : n .mode ≡ m .mode

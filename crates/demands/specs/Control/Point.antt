@@ -20,7 +20,7 @@ pub record Point (S : Type 0) : Type 0 where
   pub opening : Opening → Answer S
   pub calling : S → Call → Answer Sent × S
 
--- the service's own
+-- the calls of the service
 abbrev pub step : Console → Call → Answer Sent × Console
 step k (connect c) = connects k c
 step k (disconnect c) = disconnects k c
@@ -39,17 +39,17 @@ pub record Event : Type 0 where
 abbrev pub event : Call → Answer Sent → Event
 event q a = record { call = q; answer = a }
 
--- the newest answer, where the newest event stands first
+-- the newest answer, when the newest event is first
 abbrev pub latest : List Event → Answer Sent
 latest [] = sent [] []
 latest (e ∷ past) = e .answer
 
--- what has happened, the newest first, and the state after the calls of a list, from a state to which `past` has led
+-- runs the calls of a list, from a state that `past` has led to: what has happened, the newest first, and the state after them
 unfoldable pub run : {S : Type 0} → Point S → S → List Event → List Call → List Event × S
 run p x past [] = (past, x)
 run p x past (q ∷ qs) = run p (p .calling x q .1) (event q (p .calling x q .0) ∷ past) qs
 
--- it refuses to open what the service refuses; and from any other opening, each sequence of calls has the answers that it has from the service
+-- it refuses to open what the service refuses; and after any other opening it answers each sequence of calls as the service does
 pub record Answers {S : Type 0} (p : Point S) : Type 0 where
   pub refuses-alike : (o : Opening) (n : ℕ) → opened o ≡ refused n → p .opening o ≡ refused n
   pub answers-alike : (o : Opening) (k : Console) → opened o ≡ given k →

@@ -1,4 +1,4 @@
--- Document 01's sentences on the op codes as rules on their numbers. The theorems hold them against the table of op codes, octet by octet from 0 to 255.
+-- Document 01's sentences on the op codes as rules on their numbers. The theorems compare them with the table of op codes, for each octet from 0 to 255.
 use Prim.Native.Nat.{ℕ, zero, suc, _+_, _-_}
 use mathlib.Core.Bool.{Bool, true, false, cond, not, _&&_, _||_}
 use mathlib.Core.List.{List, [], _∷_, map}
@@ -18,7 +18,7 @@ use Rattle.service.specs.declared.control.machine.Who.{Who}
 use Rattle.service.specs.declared.control.machine.Who.the-variants.{Nobody, Client}
 use Rattle.service.specs.Control.Machine.{is}
 
--- so many numbers from one on, and every octet
+-- k numbers from n on, and every octet
 abbrev pub counting : ℕ → ℕ → List ℕ
 counting n zero = []
 counting n (suc k) = n ∷ counting (suc n) k
@@ -26,7 +26,7 @@ counting n (suc k) = n ∷ counting (suc n) k
 abbrev pub octets : List ℕ
 octets = counting 0 256
 
--- an op code from one to another, and one of some
+-- whether an op code is from a to b, and whether it is one of a list
 abbrev pub to : ℕ → ℕ → ℕ → Bool
 to a b o = leb a o && leb o b
 
@@ -34,7 +34,7 @@ abbrev pub among : List ℕ → ℕ → Bool
 among [] o = false
 among (x ∷ xs) o = eqb x o || among xs o
 
--- those of a list that a test picks, and their sum
+-- the numbers of a list that a test picks, and the sum of a list
 abbrev pub picked : (ℕ → Bool) → List ℕ → List ℕ
 picked f [] = []
 picked f (x ∷ xs) = let rest : List ℕ = picked f xs in cond (f x) (x ∷ rest) rest
@@ -80,7 +80,7 @@ widths o =
     (cond (eqb o 0x10) (replicate 5 U16)
     (cond (eqb o 0x11) (S16 ∷ S16 ∷ U8 ∷ U8 ∷ []) [])))))))
 
--- its octets: one for a u8, three for the u24, two for each zone, six for wind, grade, rolling and drag, and two for any other number
+-- the number of its octets: one for a u8, three for the u24, two for each zone, six for wind, grade, rolling and drag, and two for any other number
 abbrev pub size : ℕ → ℕ
 size o =
     cond (among (0x04 ∷ 0x06 ∷ 0x08 ∷ []) o) 1
@@ -91,8 +91,8 @@ size o =
     (cond (eqb o 0x11) 6
     (cond (storing o) 2 0))))))
 
--- "value outside its range or 08 with neither 1 nor 2", turned over; "Ranges (least, greatest, both allowed) exist for speed u16, inclination
--- s16, resistance s16, power s16, heart rate u8."
+-- the opposite of "value outside its range or 08 with neither 1 nor 2"; "Ranges (least, greatest, both allowed) exist for speed u16, inclination s16,
+-- resistance s16, power s16, heart rate u8."
 abbrev pub allowed : Ranges → ℕ → List ℕ → Bool
 allowed r o p =
     cond (eqb o 0x02) (to (r .speed .least) (r .speed .greatest) (number 2 p))
@@ -102,7 +102,7 @@ allowed r o p =
     (cond (eqb o 0x06) (to (r .«heart_rate» .least) (r .«heart_rate» .greatest) (number 1 p))
     (cond (eqb o 0x08) (to 1 2 (number 1 p)) true)))))
 
--- "00 gives control; 01 .. frees control": who holds it after the success of a client's op code
+-- "00 gives control; 01 .. frees control": who holds it after a client's op code has succeeded
 abbrev pub holder : ℕ → ℕ → Who → Who
 holder o c before = cond (eqb o 0x00) (Client c) (cond (eqb o 0x01) Nobody before)
 
@@ -111,11 +111,11 @@ abbrev pub mode : ℕ → ℕ → Mode → Mode
 mode o x before =
     cond (eqb o 0x01) Stopped (cond (eqb o 0x07) Running (cond (eqb o 0x08) (cond (eqb x 1) Stopped (cond (eqb x 2) Paused before)) before))
 
--- where a setting begins: the settings stand one behind the other, in the order of op codes
+-- where a setting begins: the settings follow one another in the order of op codes
 abbrev pub place : ℕ → ℕ
 place o = sum (map size (picked storing (counting 0 o)))
 
--- "01 zeroes every setting", "02 to 06, 09 to 12 and 14 store the parameter octets": the octets of all settings after the success of an op code
+-- "01 zeroes every setting", "02 to 06, 09 to 12 and 14 store the parameter octets": the octets of all settings after an op code has succeeded
 abbrev pub settings : ℕ → List ℕ → List ℕ → List ℕ
 settings o p before = cond (eqb o 0x01) (replicate 49 0) (cond (storing o) (placed before (place o) p) before)
 
@@ -123,7 +123,7 @@ settings o p before = cond (eqb o 0x01) (replicate 49 0) (cond (storing o) (plac
 abbrev pub setting : ℕ → List ℕ → List ℕ
 setting o all = cond (storing o) (take (size o) (drop (place o) all)) []
 
--- two settings that have no octet in common, or are one
+-- whether two settings have no octet in common, or are the same
 abbrev pub apart : ℕ → ℕ → Bool
 apart a b = eqb a b || (leb (place a + size a) (place b) || leb (place b + size b) (place a))
 
@@ -139,15 +139,15 @@ running Stopped = false
 running Running = true
 running Paused = false
 
--- a holder, and not this client
+-- there is a holder, and it is not this client
 abbrev pub another : Who → ℕ → Bool
 another Nobody c = false
 another (Client d) c = not (eqb d c)
 
--- of a machine that was opened so, its holder and its mode; a client's op code and parameter
+-- what a machine was opened with, its holder and its mode; a client, its op code and the parameter
 module _ (s : Setup) (h : Who) (m : Mode) (c o : ℕ) (p : List ℕ) where
-  -- "04 when 00 finds another holder, 07 finds running, 08 with 1 finds stopped, or 08 with 2 finds anything but running": it is asked of 08 with 1 or
-  -- 2 alone, since any other is 03 before
+  -- "04 when 00 finds another holder, 07 finds running, 08 with 1 finds stopped, or 08 with 2 finds anything but running": this is asked only for 08
+  -- with 1 or 2, since any other parameter gives 03 before
   abbrev pub fails : Bool
   fails =
       cond (eqb o 0x00) (another h c)

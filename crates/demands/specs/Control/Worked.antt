@@ -1,4 +1,4 @@
--- Worked cases of the control point with the state after each: each table is complete in what its first line names.
+-- Worked cases of the control point, with the state after each: each file covers all that its first line names.
 pub mod Seen
 pub mod Modes
 pub mod Ends

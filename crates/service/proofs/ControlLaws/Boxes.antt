@@ -1,4 +1,4 @@
--- Octets beside their count, and back.
+-- Octets with their count, and back.
 use Prim.Native.Nat.{ℕ, zero, suc, _-_, _≤_}
 use mathlib.Core.Path.{_≡_, refl, ap, _∙_}
 use mathlib.Core.List.{List, _++_}

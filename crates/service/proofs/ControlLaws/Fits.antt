@@ -43,14 +43,14 @@ pub judges : (m : Machine) (c : ℕ) (x : OpCode) (p : List ℕ) {s k t f : Bool
 unfolding judged
 judges m c x p s k t f = λ i. first-of (s i) (k i) (t i) (f i)
 
--- what must hold of a write that succeeds
+-- what must hold for a write that succeeds
 pub record Granted (m : Machine) (c : ℕ) (x : OpCode) (p : List ℕ) : Type 0 where
   pub supported : supports (m .setup .feature) (x .need) ≡ true
   pub controlled : controls (m .holder) c (x .act) ≡ true
   pub suits : fit (m .setup .ranges) x p ≡ true
   pub right : fails m c (x .act) (number 1 p) ≡ false
 
--- the result of a write: 02 to 05, or 01 with all that it takes
+-- the result of a write: 02 to 05, or 01 with all that it requires
 pub data Judged (m : Machine) (c : ℕ) (x : OpCode) (p : List ℕ) : WriteResult → Type 0 where
   against : {r : WriteResult} → succeeds r ≡ false → Judged m c x p r
   for : Granted m c x p → Judged m c x p Success
@@ -78,7 +78,7 @@ granted-so m c x p e = from (judged-so m c x p) e
     from (against f) e = absurd (true≢false (sym e ∙ f))
     from (for g) e = g
 
--- ---- what a write gives, by what the table says of its op code and by its result
+-- ---- what a write gives, by what the table says about its op code and by its result
 
 success-of : (r : WriteResult) → succeeds r ≡ true → r ≡ Success
 success-of Success e = refl

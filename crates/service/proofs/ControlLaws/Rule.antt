@@ -1,4 +1,4 @@
--- A rule of the op codes is a test that computes over the table: it holds of whatever the table says of an op code.
+-- A rule of the op codes is a test that is computed over the table; it then holds for every op code that is in it.
 use Prim.Native.Nat.{ℕ, _≤_}
 use mathlib.Core.Path.{_≡_, refl, sym}
 use mathlib.Core.Bool.{Bool, true}
@@ -13,14 +13,14 @@ use Rattle.service.specs.Control.OpCodes.{Line, table, look-up, op-code}
 use Rattle.service.specs.Control.Parameters.{size}
 use Rattle.service.specs.Control.Effects.{end-of, Room}
 
--- an op code that is known is no unknown one
+-- a known op code is not an unknown one
 pub not-unknown : {A : Type 0} {x : OpCode} → Unknown ≡ Known x → A
 not-unknown e = absurd (let z : _≡_ {A = ℕ} 0 1 = cc in omega arith)
 
 same-code : (x y : OpCode) → Known x ≡ Known y → x ≡ y
 same-code x y e = cc
 
--- a rule that holds of every line
+-- a rule that holds for every line
 module _ (f : ℕ → OpCode → Bool) where
   abbrev pub on-line : Line → Bool
   on-line l = f (l .op) (l .code)
@@ -38,7 +38,7 @@ module _ (f : ℕ → OpCode → Bool) where
   unfolding op-code
   table-rule h o x e = rule-in table h o x e
 
--- ---- an op code that is none of a table's, as the last arm of a `match` knows it: each of the others was tried before
+-- ---- an op code that is not in a table, as the last arm of a `match` knows it: each of the others was tried before
 
 abbrev pub NoneOf : Type 0 → List Line → ℕ → Type 0
 NoneOf T [] o = T

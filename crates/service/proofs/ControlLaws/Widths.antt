@@ -1,4 +1,4 @@
--- The numbers of a parameter, by their places.
+-- The numbers of a parameter, by index.
 use Prim.Native.Nat.{ℕ, zero, suc, _<_}
 use mathlib.Core.Path.{_≡_, refl, sym, ap, _∙_}
 use mathlib.Core.Bool.{cond}
@@ -12,7 +12,7 @@ use Rattle.record.specs.Layout.{octets-of}
 use Rattle.service.specs.declared.control.parameters.Parameter.{Parameter}
 use Rattle.service.specs.Control.Parameters.{widths, size}
 
--- the first n have one width, and u8 stands for those that are not there
+-- the first n have one width; past them the width is u8
 pub copies : (n i : ℕ) (w : Width) → cond (ltb i n) w U8 ≡ getD (replicate n w) i U8
 copies zero i w = rw (leb·suc-zero i)
 copies (suc n) zero w = rw (leb·suc-suc 0 n, leb·zero n)
@@ -29,7 +29,7 @@ simulation i = copies 2 i S16 ∙ same i
     same (suc (suc (suc zero))) = refl
     same (suc (suc (suc (suc i)))) = refl
 
--- the numbers and the octets of a parameter that is known
+-- equal parameters have equal widths and the same number of octets
 pub same-width : {p q : Parameter} (i : ℕ) → p ≡ q → getD (widths q) i U8 ≡ getD (widths p) i U8
 same-width i e = ap (λ (x : Parameter). getD (widths x) i U8) (sym e)
 

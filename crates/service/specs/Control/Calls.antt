@@ -17,7 +17,7 @@ use Rattle.service.specs.Control.Effects.{response-octets, status-after,
 use Rattle.service.specs.Control.Console.{absent, is-connected, is-indicating, with-client, awaiting, first, closed}
 use Rattle.service.specs.Control.Replies.{Sent, refuses, accepts, responds}
 
--- "A machine is opened with a Feature value and its ranges.": the value's octets
+-- "A machine is opened with a Feature value and its ranges.": the value is given as octets
 pub record Opening : Type 0 where
   pub feature : List ℕ
   pub ranges : Ranges
@@ -40,7 +40,7 @@ open-reply (given k) = accepts k
 abbrev pub opens : Opening → Answer Sent × Console
 opens o = open-reply (opened o)
 
--- "connect, disconnect and indications 10, 17"; "17: client not connected; for connect, already connected": what a connected client is answered
+-- "connect, disconnect and indications 10, 17"; "17: client not connected; for connect, already connected": the answer to a connected client
 abbrev pub of-connected : Console → ℕ → Answer Sent × Console → Answer Sent × Console
 of-connected k c x = cond (ltb 3 c) (refuses k 10) (cond (not (is-connected k c)) (refuses k 17) x)
 

@@ -24,7 +24,7 @@ module _ (k : Console) (c : ℕ) where
   abbrev pub is-indicating : Bool
   is-indicating = client-at .indicating
 
-  -- another client in a client's place
+  -- the console with a new state of a client
   abbrev pub with-client : Client → Console
   with-client x = record { machine = k .machine; clients = set (k .clients) c x; awaited = k .awaited }
 
@@ -36,7 +36,7 @@ awaiting k w = record { machine = k .machine; clients = k .clients; awaited = w 
 abbrev pub first : Setup → Console
 first s = record { machine = fresh s; clients = replicate 4 absent; awaited = Nobody }
 
--- what stands where opening is refused: no target setting, and every range at 0
+-- the console in a reply that refuses to open one: no target setting, and every range is 0 to 0
 abbrev pub closed : Console
 closed = first (record {
   feature = record { features = 0; targets = 0 };

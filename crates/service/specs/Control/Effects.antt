@@ -45,7 +45,7 @@ status-octets Silent p = []
 status-octets (Octet x) p = x ∷ []
 status-octets (Echo x) p = x ∷ p
 
--- what the success of an op code with its parameter says, and what it makes of a machine
+-- the status octets of an op code that succeeds with its parameter, and the machine after it
 abbrev pub success-status : Lookup → List ℕ → List ℕ
 success-status (Known x) p = status-octets (x .status) p
 success-status Unknown p = []
@@ -54,7 +54,7 @@ abbrev pub success : Machine → ℕ → Lookup → List ℕ → Machine
 success m c (Known x) p = done m c (x .act) p
 success m c Unknown p = m
 
--- "02 to 05 change nothing else": what a client's write of an op code and its parameter says, and the machine after it
+-- "02 to 05 change nothing else": the status octets of a client's write of an op code and its parameter, and the machine after it
 module _ (m : Machine) (c o : ℕ) (p : List ℕ) where
   abbrev pub status-after : List ℕ
   status-after = cond (succeeds (result m c o p)) (success-status (op-code o) p) []
@@ -65,7 +65,7 @@ module _ (m : Machine) (c o : ℕ) (p : List ℕ) where
   abbrev pub performs : Performed
   performs = record { result = result m c o p; status = boxed status-after; machine = machine-after }
 
--- where a parameter of n octets ends among the settings, if an act stores it; they are 49 octets: the sixteen settings, one behind the other
+-- where a parameter of n octets ends among the settings, if an act stores it; the sixteen settings follow one another in 49 octets
 abbrev pub end-of : Act → ℕ → ℕ
 end-of TakesControl n = 0
 end-of Resets n = 0
@@ -76,7 +76,7 @@ end-of (Stores at) n = at + n
 abbrev pub Room : Act → ℕ → Type 0
 Room a n = end-of a n ≤ 49
 
--- the octets of a setting, from its place on; none for an op code that stores nothing
+-- the octets of a setting, from its index on; none for an op code that stores nothing
 abbrev pub part : List ℕ → ℕ → Act → List ℕ
 part s n TakesControl = []
 part s n Resets = []

@@ -92,7 +92,7 @@ unfoldable pub judged : Machine → ℕ → OpCode → List ℕ → WriteResult
 judged m c x p =
     first-of (supports (m .setup .feature) (x .need)) (controls (m .holder) c (x .act)) (fit (m .setup .ranges) x p) (fails m c (x .act) (number 1 p))
 
--- "unsupported op code, result 02": one that the table does not have, too
+-- "unsupported op code, result 02": this includes one that the table does not have
 abbrev pub result-of : Machine → ℕ → Lookup → List ℕ → WriteResult
 result-of m c (Known x) p = judged m c x p
 result-of m c Unknown p = NotSupported

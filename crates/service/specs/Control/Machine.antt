@@ -24,7 +24,7 @@ abbrev pub is : Who → ℕ → Bool
 is Nobody c = false
 is (Client d) c = eqb d c
 
--- who is left when a client goes
+-- nobody if it is this client, otherwise as it was
 abbrev pub without : Who → ℕ → Who
 without w c = cond (is w c) Nobody w
 

@@ -21,7 +21,7 @@ use Rattle.service.specs.declared.control.op_codes.Lookup.the-variants.{
 abbrev pub known : Parameter → Need → Bound → Status → Act → OpCode
 known p n b s a = record { parameter = p; need = n; bound = b; status = s; act = a }
 
--- an op code, and what the table says of it
+-- an op code, and what the table says about it
 pub record Line : Type 0 where
   pub op : ℕ
   pub code : OpCode
@@ -34,7 +34,7 @@ at o p n b s a = record { op = o; code = known p n b s a }
 -- for each zone, 11 wind s16, grade s16, rolling u8, drag u8, 12 wheel u16, 14 cadence u16. 00, 01, 07, 08 are always supported; 02 to 06
 -- need target bits 0 to 4, 09 to 12 need 5 to 14, 14 needs 16." "Ranges .. exist for speed u16, inclination s16, resistance s16, power s16, heart
 -- rate u8." "Status octets: 01 gives 01; 07 gives 04; 08 gives 02 and its parameter; 02 to 06 give op code plus 3, 09 to 12 op code plus 1, 14
--- gives 15, each with the parameter. 00 gives none." The settings stand one behind the other, in the order of op codes.
+-- gives 15, each with the parameter. 00 gives none." The settings follow one another in the order of op codes.
 abbrev pub table : List Line
 table =
     at 0x00 Empty Always Free Silent TakesControl ∷
@@ -58,7 +58,7 @@ table =
     at 0x12 (One U16) (Bit 14) Free (Echo 0x13) (Stores 45) ∷
     at 0x14 (One U16) (Bit 16) Free (Echo 0x15) (Stores 47) ∷ []
 
--- what a table says of an op code
+-- what a table says about an op code
 abbrev pub look-up : ℕ → List Line → Lookup
 look-up o [] = Unknown
 look-up o (l ∷ ls) = cond (eqb o (l .op)) (Known (l .code)) (look-up o ls)

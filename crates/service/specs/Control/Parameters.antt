@@ -16,11 +16,11 @@ widths ThreeZones = U16 ∷ U16 ∷ U16 ∷ []
 widths FiveZones = U16 ∷ U16 ∷ U16 ∷ U16 ∷ U16 ∷ []
 widths Simulation = S16 ∷ S16 ∷ U8 ∷ U8 ∷ []
 
--- the octets that widths take together
+-- the number of octets that widths take together
 abbrev pub together : List Width → ℕ
 together [] = 0
 together (w ∷ ws) = octets-of w + together ws
 
--- the octets that a parameter takes
+-- the number of octets that a parameter takes
 abbrev pub size : Parameter → ℕ
 size p = together (widths p)

@@ -23,7 +23,7 @@ value Power p = signed (number 2 p)
 value HeartRate p = pos (number 1 p)
 value OneOrTwo p = pos (number 1 p)
 
--- whether it is allowed
+-- whether that number is allowed
 abbrev pub bounded : Ranges → Bound → ℤ → Bool
 bounded r Free x = true
 bounded r Speed x = in-range (pos (r .speed .least)) (pos (r .speed .greatest)) x

@@ -10,7 +10,7 @@ use Rattle.service.specs.declared.control.Outcome.the-variants as outcom
 use Rattle.service.specs.declared.control.Reply.{Reply}
 use Rattle.service.specs.Control.Counted.{boxed, counted}
 
--- what goes out: response octets and status octets, none where a call has none
+-- what a call sends: response octets and status octets, either may be empty
 pub record Sent : Type 0 where
   pub response : List ℕ
   pub status : List ℕ
@@ -23,7 +23,7 @@ abbrev pub status-of : Answer Sent → List ℕ
 status-of (refused n) = []
 status-of (given s) = s .status
 
--- document 01's number, 0 where nothing is refused
+-- document 01's refusal number, 0 if nothing is refused
 abbrev pub refusal-of : Answer Sent → ℕ
 refusal-of (refused n) = n
 refusal-of (given s) = 0
@@ -32,7 +32,7 @@ refusal-of (given s) = 0
 abbrev pub refuses : Console → ℕ → Answer Sent × Console
 refuses k n = (refused n, k)
 
--- these response octets and status octets
+-- an answer with these response octets and status octets
 abbrev pub sent : List ℕ → List ℕ → Answer Sent
 sent r s = given (record { response = r; status = s })
 
@@ -50,7 +50,7 @@ meant-outcome (outcome.Refused x) r s = refused (number-of x)
 abbrev pub meant : Reply → Answer Sent × Console
 meant r = (meant-outcome (r .outcome) (counted (r .response)) (counted (r .status)), r .console)
 
--- what a reply says means this, and its octets past the counts are 0
+-- a reply means this, and its octets past the counts are 0
 pub record Says (r : Reply) (x : Answer Sent × Console) : Type 0 where
   pub means : meant r ≡ x
   pub response-rest : r .response ≡ boxed (response-of (x .0))

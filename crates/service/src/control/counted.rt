@@ -1,4 +1,4 @@
-// Octets beside their count, as a reply hands them out.
+// Octets with their count, as a reply returns them.
 ghost use mathlib.Core.Path.{_≡_};
 ghost use mathlib.Core.List.{[], _∷_};
 ghost use Prim.Native.Nat.{_+_, _≤_};
@@ -6,13 +6,13 @@ ghost use lib.ListN.{length, take, drop};
 ghost use Rattle.record.specs.Octets.{placed};
 ghost use Rattle.service.specs.Control.Counted.{boxed};
 
-// As many octets as the count says; those past the count are 0. The longest are a status octet and a parameter of ten.
+// The first `count` octets count; those past them are 0. The longest are a status octet and a parameter of ten.
 pub struct Counted {
     pub count: u8,
     pub octets: [u8; 11],
 }
 
-// Writes octets over others, from a place on.
+// Writes octets over others, from an index on.
 pub(crate) fn put(out: &mut [u8], at: usize, octets: &[u8])
     requires { ⌜ at + length (now octets) ≤ length (now out) ⌝ }
     ensures { λ r. ⌜ now (out .exit) ≡ placed (now (out .entry)) at (now (octets .entry)) ⌝ }
@@ -24,7 +24,7 @@ pub(crate) fn put(out: &mut [u8], at: usize, octets: &[u8])
     }
 }
 
-// The octets of a setting that starts at a place.
+// The octets of a setting that begins at an index.
 pub(crate) fn kept(settings: [u8; 49], place: u8, count: u8) -> Counted
     requires { ⌜ (place + count ≤ 49) × (count ≤ 11) ⌝ }
     ensures { λ r. ⌜ r ≡ boxed (take count (drop place settings)) ⌝ }

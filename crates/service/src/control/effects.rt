@@ -1,4 +1,4 @@
-// What a write of an op code and its parameter does to the machine, and says.
+// What a write of an op code and its parameter does to the machine, and its status octets.
 use crate::control::counted::Counted;
 use crate::control::counted::kept;
 use crate::control::counted::none;
@@ -39,7 +39,7 @@ fn halted(x: u8) -> Mode
     Mode::Paused
 }
 
-// What the success of an op code with its parameter makes of a machine.
+// The machine after an op code has succeeded with its parameter.
 fn done(machine: Machine, client: u8, act: Act, p: &[u8]) -> Machine
     requires { ⌜ Room act (length (now p)) ⌝ }
     ensures { λ r. ⌜ r ≡ Effects·done machine client act (now (p .entry)) ⌝ }
@@ -55,7 +55,7 @@ fn done(machine: Machine, client: u8, act: Act, p: &[u8]) -> Machine
     }
 }
 
-// What the success of an op code with its parameter says.
+// The status octets of an op code that succeeds with its parameter.
 fn says(status: Status, p: &[u8]) -> Counted
     requires { ⌜ length (now p) ≤ 10 ⌝ }
     ensures { λ r. ⌜ r ≡ boxed (status-octets status (now (p .entry))) ⌝ }
@@ -67,7 +67,7 @@ fn says(status: Status, p: &[u8]) -> Counted
     }
 }
 
-// A write that does nothing but have a result.
+// A write that has a result and does nothing else.
 fn failed(machine: Machine, result: WriteResult) -> Performed
     ensures { λ r. ⌜ r ≡ record { result = result; status = boxed []; machine = machine } ⌝ }
 {
@@ -94,7 +94,7 @@ fn granted(machine: Machine, client: u8, code: OpCode, p: &[u8]) -> Performed
     }
 }
 
-// What a client's write of an op code and its parameter gives: "02 to 05 change nothing else".
+// What a client's write of an op code and its parameter does: "02 to 05 change nothing else".
 pub(crate) fn perform(machine: Machine, client: u8, op: u8, p: &[u8]) -> Performed
     ensures { λ r. ⌜ r ≡ performs machine client op (now (p .entry)) ⌝ }
 {
@@ -110,7 +110,7 @@ pub(crate) fn perform(machine: Machine, client: u8, op: u8, p: &[u8]) -> Perform
     }
 }
 
-// The octets of a setting, from the place where an act stores it.
+// The octets of a setting, from the index where an act stores it.
 fn part(settings: [u8; 49], count: u8, act: Act) -> Counted
     requires { ⌜ (count ≤ 10) × Room act count ⌝ }
     ensures { λ r. ⌜ r ≡ boxed (Effects·part settings count act) ⌝ }

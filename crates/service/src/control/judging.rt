@@ -22,7 +22,7 @@ pub enum WriteResult {
 }
 
 impl WriteResult {
-    // The octet of a response that says the result.
+    // The result octet of a response.
     pub fn number(self) -> u8
         ensures { λ r. ⌜ r ≡ result-number self ⌝ }
     {
@@ -58,7 +58,7 @@ fn supports(feature: Feature, need: Need) -> bool
     }
 }
 
-// Whether a client may write an op code: the holder may, and for 00 anyone.
+// Whether a client may write an op code: the holder, or anyone for 00.
 fn controls(holder: Who, client: u8, act: Act) -> bool
     ensures { λ r. ⌜ r ≡ Judging·controls holder client act ⌝ }
 {
@@ -105,7 +105,7 @@ fn is_running(mode: Mode) -> bool
     }
 }
 
-// Whether result 04 is due, where 02, 05 and 03 are not.
+// Whether the result is 04, if it is not 02, 05 or 03.
 fn fails(machine: Machine, client: u8, act: Act, x: u8) -> bool
     ensures { λ r. ⌜ r ≡ Judging·fails machine client act x ⌝ }
 {

@@ -1,4 +1,4 @@
-// The machine that op codes act on: what it was opened with, who holds control, what it does, and its settings.
+// The machine that op codes act on: what it was opened with, who holds control, its mode, and its settings.
 use crate::control::counted::put;
 use crate::control::ranges::Ranges;
 use crate::control::ranges::are_ranges;
@@ -27,7 +27,7 @@ pub struct Setup {
     pub ranges: Ranges,
 }
 
-// What op codes act on. The settings stand one behind the other in the order of op codes, sixteen of them in 49 octets.
+// What op codes act on. The sixteen settings follow one another in the order of op codes, in 49 octets.
 pub struct Machine {
     pub setup: Setup,
     pub holder: Who,
@@ -36,7 +36,7 @@ pub struct Machine {
 }
 
 impl Setup {
-    // Whether a machine can be opened with it: 16 where it cannot.
+    // Whether a machine can be opened with it; refusal 16 if it cannot.
     pub(crate) fn is_usable(self) -> bool
         ensures { λ r. ⌜ r ≡ usable self ⌝ }
     {
@@ -64,7 +64,7 @@ impl Who {
         }
     }
 
-    // Who is left when a client goes.
+    // Nobody if it is this client, otherwise as it was.
     pub(crate) fn without(self, client: u8) -> Who
         ensures { λ r. ⌜ r ≡ Machine·without self client ⌝ }
     {
@@ -88,7 +88,7 @@ impl Machine {
         }
     }
 
-    // Control goes to this client, or to nobody.
+    // Gives control to a client, or to nobody.
     pub(crate) fn held(self, holder: Who) -> Machine
         ensures { λ r. ⌜ r ≡ held-by self holder ⌝ }
     {
@@ -103,7 +103,7 @@ impl Machine {
         }
     }
 
-    // A client goes: "Disconnect frees control held by that client".
+    // A client leaves: "Disconnect frees control held by that client".
     pub(crate) fn freed(self, client: u8) -> Machine
         ensures { λ r. ⌜ r ≡ Machine·freed self client ⌝ }
     {
@@ -127,7 +127,7 @@ impl Machine {
         }
     }
 
-    // A setting is stored from a place on.
+    // Stores a setting, from an index on.
     pub(crate) fn storing(mut self, place: u8, octets: &[u8]) -> Machine
         requires { ⌜ place + length (now octets) ≤ 49 ⌝ }
         ensures { λ r. ⌜ r ≡ Machine·storing self (placed (self .settings) place (now (octets .entry))) ⌝ }

@@ -1,4 +1,4 @@
-// The op codes, a line each.
+// The table of op codes, one line per op code.
 use crate::control::op_codes::Act::Halts;
 use crate::control::op_codes::Act::Resets;
 use crate::control::op_codes::Act::Starts;
@@ -51,7 +51,7 @@ pub enum Status {
     Echo(u8),
 }
 
-// What success does: gives control, resets, starts, stops or pauses, or stores the parameter among the settings from a place on.
+// What success does: gives control, resets, starts, stops or pauses, or stores the parameter among the settings from an index on.
 pub enum Act {
     TakesControl,
     Resets,
@@ -60,7 +60,7 @@ pub enum Act {
     Stores(u8),
 }
 
-// What the table says of an op code.
+// What the table says about an op code.
 pub struct OpCode {
     pub parameter: Parameter,
     pub need: Need,
@@ -96,14 +96,14 @@ fn line(parameter: Parameter, need: Need, bound: Bound, status: Status, act: Act
     })
 }
 
-// A line of the table that sets a target: its parameter, the target bit that it needs, what bounds it, the status octet that the parameter follows, and its place among the settings.
+// A line of the table that sets a target: its parameter, its target bit, what bounds it, the status octet before the parameter, and its index in the settings.
 fn target(parameter: Parameter, bit: u8, bound: Bound, status: u8, place: u8) -> Lookup
     ensures { λ r. ⌜ r ≡ Lookup.Known (known parameter (Need.Bit bit) bound (Status.Echo status) (Act.Stores place)) ⌝ }
 {
     line(parameter, Bit(bit), bound, Echo(status), Stores(place))
 }
 
-// What the table says of an op code, which stands in front of its line.
+// What the table says about an op code; each line begins with its op code.
 pub fn op_code(op: u8) -> Lookup
     ensures { λ r. ⌜ r ≡ op-code op ⌝ }
 {

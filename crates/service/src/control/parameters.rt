@@ -1,4 +1,4 @@
-// The parameters of the op codes: how many numbers each has, how wide they are, and the octets that they take.
+// The parameters of the op codes: how many numbers each has, how wide they are, and how many octets they take.
 use record::layout::Width;
 use record::layout::width_length;
 ghost use mathlib.Core.Path.{_≡_};
@@ -18,7 +18,7 @@ pub enum Parameter {
     Simulation,
 }
 
-// One width below a place, and u8 from there on.
+// A width for the numbers below `end`, and u8 from there on.
 fn below(i: u8, end: u8, width: Width) -> Width
     ensures { λ r. ⌜ r ≡ cond (ltb i end) width U8 ⌝ }
 {
@@ -29,7 +29,7 @@ fn below(i: u8, end: u8, width: Width) -> Width
 }
 
 impl Parameter {
-    // The octets that a parameter takes.
+    // The number of octets that a parameter takes.
     pub fn length(self) -> u8
         ensures { λ r. ⌜ r ≡ size self ⌝ }
     {

@@ -56,14 +56,14 @@ fn is_signed_range(range: SignedRange) -> bool
     range.least <= range.greatest
 }
 
-// Both ends are allowed.
+// Whether a number is in a range; both ends are allowed.
 fn unsigned_within(least: u16, x: u16, greatest: u16) -> bool
     ensures { λ b. ⌜ b ≡ in-range (pos least) (pos greatest) (pos x) ⌝ }
 {
     least <= x && x <= greatest
 }
 
-// Both ends are allowed.
+// Whether a number is in a range; both ends are allowed.
 fn signed_within(range: SignedRange, x: i16) -> bool
     ensures { λ b. ⌜ b ≡ in-range (range .least) (range .greatest) x ⌝ }
 {

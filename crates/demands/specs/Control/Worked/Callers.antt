@@ -1,4 +1,4 @@
--- Each call by each client: the holder, the one whose response awaits, another that is connected, one that is not, and one above 3. "connect,
+-- Each call by each client: the holder, the one whose response is awaited, another that is connected, one that is not, and one above 3. "connect,
 -- disconnect and indications 10, 17; confirm 10, 17, 21"; "A write is judged in this order: 10, 17, 18, 19, 20"; "10 to 22 leave the state unchanged."
 use Prim.Native.Nat.{ℕ}
 use mathlib.Core.Bool.{true, false}
@@ -21,7 +21,7 @@ fast = (0x02, 0xe8 ∷ 0x03 ∷ []) ∷ []
 abbrev pub three : Who → Who → State
 three holder awaited = state Running holder awaited (0 ∷ 1 ∷ 2 ∷ []) (0 ∷ 1 ∷ []) fast
 
--- a call that is refused, and one that is not: the state after it
+-- a call that is refused, a call that is not, and the state after it
 abbrev pub _is-refused_leaving_ : Call → ℕ → State → Row
 _is-refused_leaving_ q n s = row q (refused n) s
 
@@ -29,7 +29,7 @@ abbrev pub _leaves_ : Call → State → Row
 _leaves_ q s = row q (sent [] []) s
 
 infix 5 _is-refused_leaving_ _leaves_
--- client 0 holds control; client 1 wrote without it, and its response awaits
+-- client 0 holds control; client 1 wrote without it, and its response awaits confirmation
 abbrev pub other-due-state : State
 other-due-state = three (Client 0) (Client 1)
 
@@ -73,7 +73,7 @@ other-due =
     (confirm 3 is-refused 17 leaving other-due-state) ∷
     (confirm 4 is-refused 10 leaving other-due-state) ∷ [])
 
--- client 0 holds control, and its own response awaits
+-- client 0 holds control, and its own response awaits confirmation
 abbrev pub holder-due-state : State
 holder-due-state = three (Client 0) (Client 0)
 

@@ -1,4 +1,4 @@
--- Courses of calls, each row from where the row before it leads; and each setting, alone and with all others.
+-- Sequences of calls, each row from the state that the row before it leads to; and each setting, alone and with all others.
 use Prim.Native.Nat.{ℕ}
 use mathlib.Core.Bool.{true, false}
 use mathlib.Core.List.{List, [], _∷_, _++_}
@@ -16,14 +16,14 @@ use Rattle.demands.specs.Control.Worked.Callers.{fast, _is-refused_leavi
 abbrev pub said : ℕ → ℕ → List ℕ → ℕ → List ℕ → State → Row
 said c o p r s x = row (write c (o ∷ p)) (sent (0x80 ∷ o ∷ r ∷ []) s) x
 
--- the clients that are connected, and those whose indications are on
+-- lists of clients: both, and one alone
 abbrev pub both : List ℕ
 both = 0 ∷ 1 ∷ []
 
 abbrev pub only : ℕ → List ℕ
 only c = c ∷ []
 
--- "Indications are off at connect; turning them off leaves an awaited response due.": no client can write until client 0 confirms, which it can
+-- "Indications are off at connect; turning them off leaves an awaited response due.": no client can write until client 0 confirms, which it can do
 -- with indications off
 abbrev pub off-while-due : Table
 off-while-due =
@@ -44,7 +44,7 @@ off-while-due =
     (confirm 0 is-refused 21 leaving state Stopped (Client 0) Nobody both (only 1) []) ∷
     said 1 0x00 [] 0x04 [] (state Stopped (Client 0) (Client 1) both (only 1) []) ∷ [])
 
--- "Disconnect frees control held by that client, its indications and its awaited response.": of nobody else, and the machine runs on with its settings
+-- "Disconnect frees control held by that client, its indications and its awaited response.": of no other client; the machine runs on with its settings
 abbrev pub clients-leave : Table
 clients-leave =
     table (able fair) (holds 0 ++ asks 0 (0x02 ∷ 0xe8 ∷ 0x03 ∷ []) ++ asks 0 (0x07 ∷ []) ++ ready 1 ++ write 1 (0x07 ∷ []) ∷ [])

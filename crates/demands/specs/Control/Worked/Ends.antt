@@ -29,7 +29,7 @@ between a b c d e f g h i j = record {
 abbrev pub able : Ranges → Opening
 able r = opening (0 ∷ 0 ∷ 0 ∷ 0 ∷ 0xff ∷ 0xff ∷ 0xff ∷ 0xff ∷ []) r
 
--- settings by their op codes, and with another value of one
+-- settings by their op codes, and the same with another value for one
 abbrev pub Settings : Type 0
 Settings = List (ℕ × List ℕ)
 
@@ -39,7 +39,7 @@ changed o p s = map (λ x. cond (eqb (x .0) o) (o, p) x) s
 abbrev pub stored : Settings → State
 stored s = state Stopped (Client 0) (Client 0) (0 ∷ []) (0 ∷ []) s
 
--- an op code and its parameter is taken: its status octet, and the settings after it; or the result is 03, and they stay
+-- a write that is accepted: its status octet, and the settings after it; or one with result 03, which leaves them
 abbrev pub takes : ℕ → List ℕ → ℕ → Settings → Row
 takes o p x s = row (write 0 (o ∷ p)) (sent (0x80 ∷ o ∷ 0x01 ∷ []) (x ∷ p)) (stored s)
 
@@ -133,8 +133,8 @@ narrowest =
     takes 0x06 (80 ∷ []) 0x09 ((0x06, 80 ∷ []) ∷ []) ∷
     declines 0x06 (81 ∷ []) [] ∷ [])
 
--- "Ranges .. exist for speed u16, inclination s16, resistance s16, power s16, heart rate u8.": every parameter of another op code is taken, here all
--- octets 0 and all octets 255, where each range is of one number
+-- "Ranges .. exist for speed u16, inclination s16, resistance s16, power s16, heart rate u8.": every parameter of another op code is accepted, here
+-- all octets 0 and all octets 255, although each range is of one number
 abbrev pub at-ends : List (ℕ × ℕ) → List Row
 at-ends [] = []
 at-ends (x ∷ xs) =

@@ -22,7 +22,7 @@ quiet m = state m (Client 0) Nobody (0 ∷ []) (0 ∷ []) []
 abbrev pub due : Mode → State
 due m = state m (Client 0) (Client 0) (0 ∷ []) (0 ∷ []) []
 
--- a write that succeeds, with its status octets and the mode after it; and one that changes nothing else than whose response awaits
+-- a write that succeeds, with its status octets and the mode after it; and one that changes only whose response is awaited
 abbrev pub succeeds : ℕ → List ℕ → List ℕ → Mode → Row
 succeeds o p s m = row (write 0 (o ∷ p)) (sent (0x80 ∷ o ∷ 0x01 ∷ []) s) (due m)
 
@@ -62,7 +62,7 @@ while-paused =
     answers 0x08 (3 ∷ []) 0x03 Paused ∷
     answers 0x08 (1 ∷ 0 ∷ []) 0x03 Paused ∷ []
 
--- stopped at first, by stopping it while it runs and while it is paused, and by a reset; running by a start and by a resume; paused
+-- stopped at first, by a stop while it runs and while it is paused, and by a reset; running by a start and by a resume; paused
 abbrev pub modes : List Table
 modes =
     table bare (holds 0) (sent [] []) (quiet Stopped) while-stopped ∷

@@ -1,5 +1,5 @@
 -- Each target bit alone against each op code that needs one: "02 to 06 need target bits 0 to 4, 09 to 12 need 5 to 14, 14 needs 16", "unsupported op
--- code, result 02", "Other bits are .. ignored when read". The bits stand in the last four octets of the Feature value, least first.
+-- code, result 02", "Other bits are .. ignored when read". The bits are in the last four octets of the Feature value, least first.
 use Prim.Native.Nat.{ℕ}
 use mathlib.Core.Bool.{cond}
 use mathlib.Core.List.{List, [], _∷_, map}
@@ -13,11 +13,11 @@ use Rattle.demands.specs.Control.Worked.Ends.{takes, stored, standing}
 use Rattle.demands.specs.Control.Worked.Openings.{fair}
 use Rattle.demands.specs.Control.Worked.Courses.{sixteen}
 
--- an op code with its parameter that is not supported
+-- a write of an op code that is not supported, with its parameter
 abbrev pub unsupported : ℕ → List ℕ → Row
 unsupported o p = row (write 0 (o ∷ p)) (sent (0x80 ∷ o ∷ 0x02 ∷ []) []) (stored [])
 
--- all sixteen op codes and 13, of which one is taken, with its status octet
+-- all sixteen op codes and 13, of which one is accepted, with its status octet
 abbrev pub but-for : ℕ → ℕ → List Row
 but-for one x = unsupported 0x13 (1 ∷ []) ∷ map (λ y. cond (eqb (y .0) one) (takes (y .0) (y .1) x ((y .0, y .1) ∷ [])) (unsupported (y .0) (y .1))) sixteen
 

@@ -17,7 +17,7 @@ abbrev pub opens-to : Answer Console → Answer State
 opens-to (refused n) = refused n
 opens-to (given k) = given (state-of k)
 
--- a machine of so many Feature octets
+-- a machine with n Feature octets
 abbrev pub with-octets : ℕ → Ranges → Opening
 with-octets n r = opening (replicate n 0) r
 
@@ -39,7 +39,7 @@ infix 5 _opens_
 abbrev pub at-first : Answer State
 at-first = given (state Stopped Nobody Nobody [] [] [])
 
--- each range reversed alone, by one and by signs, with every target setting, and speed's with none; each range of one number; and the Feature's octets
+-- each range alone reversed, by one and by sign, with all target settings, speed's with none too; ranges of one number; the Feature value's length
 abbrev pub openings : List Case
 openings =
     (able fair opens at-first) ∷

@@ -56,7 +56,7 @@ lacking =
     answers 0 0x02 (0xe8 ∷ []) 0x02 ∷
     answers 0 0x02 (0xff ∷ 0xff ∷ []) 0x02 ∷ [])
 
--- "10: client above 3": each call of client 255, and of 256
+-- "10: client above 3": each call by client 255, and connect by 256
 abbrev pub above-three : Table
 above-three =
     table (able fair) (holds 0 ++ asks 0 (0x07 ∷ []) ++ ready 1) (sent [] []) running

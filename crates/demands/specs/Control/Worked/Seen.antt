@@ -59,7 +59,7 @@ pub record Row : Type 0 where
 abbrev pub row : Call → Answer Sent → State → Row
 row q a s = record { call = q; expected = seen a s }
 
--- calls from opening, what is seen after the last of them, and then rows
+-- calls from opening on, what is seen after the last of them, and then rows
 pub record Table : Type 0 where
   pub opening : Opening
   pub calls : List Call
@@ -72,7 +72,7 @@ table o qs a s rs = record { opening = o; calls = qs; standing = seen a s; rows 
 abbrev pub told : Table → List Seen
 told t = t .standing ∷ map (λ r. r .expected) (t .rows)
 
--- each row from where the calls lead; or each row from where the row before it leads
+-- each row from the state that the calls lead to; or each row from the state that the row before it leads to
 abbrev pub each : Console → List Row → List Seen
 each k rs = map (λ r. seen (step k (r .call) .0) (state-of (step k (r .call) .1))) rs
 

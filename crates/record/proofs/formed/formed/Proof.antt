@@ -1,4 +1,4 @@
--- `formed` meets its contract, test by test: each place after a test knows what the test found. Assumes nothing.
+-- `formed` meets its contract, test by test: each point after a test knows the test's result. Assumes nothing.
 use Prim.Native.Nat.{ℕ}
 use mathlib.Core.Path.{_≡_, refl, sym, ap, _∙_}
 use mathlib.Core.Bool.{true, cond}

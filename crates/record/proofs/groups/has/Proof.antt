@@ -1,4 +1,4 @@
--- `has` meets its contract: a set of 32 bits has none above. Assumes nothing.
+-- `has` meets its contract: a set has only 32 bits. Assumes nothing.
 use Prim.Native.Nat.{_<_, _^_}
 use native.Mathlib.Nat.{le-trans}
 use lib.Pow.{pow-mono}

@@ -1,4 +1,4 @@
--- `names` meets its contract: the sum and the difference turn bit 0 over. Assumes nothing.
+-- `names` meets its contract: the sum and the difference invert bit 0. Assumes nothing.
 use Prim.Native.Nat.{_+_, _-_, _^_, _<_}
 use mathlib.Core.Path.{_≡_, ap₂}
 use native.Mathlib.Omega.{arith}

@@ -38,7 +38,7 @@ has-flags c = le-leb _ _ (rw (c .before .flags-length .ensures) at (c .if3 .left
 the-set : (c : tie.After-names) → c .names .result ≡ set (c .before .before .before .before .before .before .before .before)
 the-set c = c .names .ensures ∙ ap (names (kind (c .before .before .before .before .before .before .before .before))) (c .before .flags .ensures)
 
--- what flags and groups take
+-- the number of octets that flags and groups take
 the-end : (c : tie.After-groups-length) →
     let s = c .before .before .before .before .before .before .before .before .before in
     c .before .before .before .before .flags-length .result + c .groups-length .result ≡ flags-octets (kind s) + set-length (kind s) (set s)

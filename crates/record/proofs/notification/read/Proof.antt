@@ -1,4 +1,4 @@
--- `read` meets its contract: the groups that the flags name are read, and nothing where it is refused. Assumes nothing.
+-- `read` meets its contract: the groups that the flags name are read, and nothing if it is refused. Assumes nothing.
 use mathlib.Core.Path.{sym, ap, _∙_}
 use Prim.Native.Nat.{ℕ}
 use borrow.Author.Needs.{needs}

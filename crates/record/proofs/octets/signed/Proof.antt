@@ -1,4 +1,4 @@
--- `signed` meets its contract: below 32,768 the same number, from there on below -1. Assumes nothing.
+-- `signed` meets its contract: below 32,768 the same number, from there on negative. Assumes nothing.
 use borrow.Author.Needs.{needs}
 use mir.Syntax.{w16}
 use mir.Facts.{toZ-ofZ}

@@ -1,4 +1,4 @@
--- `unsigned` meets its contract: a negative number by what lies between it and -1. Assumes nothing.
+-- `unsigned` meets its contract: a negative number by its distance from -1. Assumes nothing.
 use Rattle.record.proofs.OctetLaws.{turned, plain}
 use Rattle.record.proofs.octets.unsigned.Statement.{statement}
 use Rattle.record.proofs.octets.unsigned.Tie as tie

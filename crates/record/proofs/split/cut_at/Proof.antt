@@ -1,4 +1,4 @@
--- `cut_at` meets its contract. The invariant: so many of the record's sets are passed, and those of the groups left follow. Assumes nothing.
+-- `cut_at` meets its contract. The invariant: the sets passed, then those of the groups left, are the record's sets. Assumes nothing.
 use Prim.Native.Nat.{_+_, _-_, _≤_, _^_}
 use mathlib.Core.Path.{_≡_}
 use mathlib.Core.Bool.{true, false}

@@ -1,4 +1,4 @@
--- `put_part` meets its contract: the flags, and the rows behind them. Assumes nothing.
+-- `put_part` meets its contract: the flags, and the rows after them. Assumes nothing.
 use Prim.Native.Nat.{ℕ}
 use mathlib.Core.Path.{sym, ap, _∙_}
 use mathlib.Core.List.{List}

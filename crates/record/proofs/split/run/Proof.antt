@@ -1,4 +1,4 @@
--- `run` meets its contract. The invariant: the groups below the bit are taken, what they take is counted, and they fit. Assumes nothing.
+-- `run` meets its contract. The invariant: the groups below the bit are taken, their octets are counted, and they fit. Assumes nothing.
 use Prim.Native.Nat.{ℕ, _+_, _-_, _*_, _%_, _^_, _≤_}
 use mathlib.Core.Path.{_≡_, sym, ap, ap₂, _∙_}
 use mathlib.Core.Logic.{⊎-elim}
@@ -22,7 +22,7 @@ abbrev μ-loop : tie.MeasureT-loop
 loop-holds : tie.Need-loop-holds Inv-loop μ-loop
 loop-holds c = (omega arith, sym (mod-one (c .args .set)), sym (length-none (c .args .kind) (c .args .set)), omega arith)
 
--- what the groups take with the bit's
+-- the number of octets with the bit's group
 used-next : (c : tie.After-group-length Inv-loop μ-loop) →
     let l = c .before .before .before .before in
     let a = l .before .args in
@@ -48,7 +48,7 @@ returns c =
     l .loop .inv .1
     ∙ run-stops (a .kind) (a .set) (a .room) (l .loop .bit) (omega arith) (rw (l .loop .inv .2) at (l .loop .inv .3)) (rw (used-next (c .before)) at (c .if2 .taken))
 
--- the groups that are taken, with the bit's
+-- the groups that are taken, with the bit's group
 taken-next : (c : tie.Else2 Inv-loop μ-loop) →
     let l = c .before .before .before .before .before in
     l .loop .taken + 1 * 2 ^ l .loop .bit % 4294967296 ≡ l .before .args .set % 2 ^ (l .loop .bit + 1)

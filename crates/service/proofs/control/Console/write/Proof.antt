@@ -23,7 +23,7 @@ module _ (c : tie.Start) where
   abbrev octets : List ℕ
   octets = now (c .args .octets)
 
--- where each test began, and what it has shown where it did not refuse
+-- where each test began, and what it has shown if it did not refuse
 abbrev start-1 : tie.Else1 → tie.Start
 start-1 c = c .before .before
 

@@ -1,4 +1,4 @@
--- `perform` meets its contract: what success does where the result is 01, else nothing. Assumes nothing.
+-- `perform` meets its contract: what success does if the result is 01, else nothing. Assumes nothing.
 use mathlib.Core.Path.{_≡_, sym, ap, _∙_}
 use mathlib.Core.List.{[]}
 use borrow.Author.Needs.{needs}

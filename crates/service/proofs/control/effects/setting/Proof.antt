@@ -1,4 +1,4 @@
--- `setting` meets its contract: what stands from the setting's place on, or nothing. Assumes nothing.
+-- `setting` meets its contract: the octets from the setting's index on, or none. Assumes nothing.
 use mathlib.Core.Path.{_≡_, sym, ap, _∙_}
 use borrow.Author.Needs.{needs}
 use Rattle.service.specs.declared.control.op_codes.Lookup.{Lookup}
