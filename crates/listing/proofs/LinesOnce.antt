@@ -1,4 +1,4 @@
--- No second reply and no second content of what is lent meets a contract: for each public function, over the contract itself.
+-- For each public function, at most one reply and one content of the lent buffer satisfy the contract, taken as it stands.
 use denote.Ref.{now}
 use Rattle.record.proofs.Once.{Once, LeftOnce}
 use Rattle.text.proofs.Once.{wrote-once}
