@@ -1,5 +1,4 @@
-// The walk over a capture: a step judges the capture's beginning, or lists one notification. The call that lists a whole capture and the program
-// `ftlist` take the same steps.
+// The walk over a capture: a step judges the capture's beginning, or lists one notification. Listing a whole capture and `ftlist` take the same steps.
 use crate::lines::put_record;
 use crate::lines::put_refused;
 use record::groups::is_known;

@@ -1,5 +1,4 @@
-// Functions for the programs, which print text, numbers and octets on standard output. The kit has no model of output, so those that print have no contract:
-// they are proved only to be safe and to end.
+// Printing for the programs: text, numbers and octets on standard output. The kit has no model of output, so what prints has no contract but is safe and ends.
 use libc::STDOUT_FILENO;
 use record::octets::unsigned;
 use text::text::put_hex;

@@ -1,5 +1,4 @@
-// Writing text into a lent buffer. Octets past the buffer's end are left out but still advance the position, so the same functions also
-// measure a text.
+// Writing text into a lent buffer. What lies past the buffer's end is left out but counted, so the same functions also measure a text.
 ghost use mathlib.Core.Path.{_≡_};
 ghost use Prim.Native.Nat.{_+_, _%_};
 ghost use mathlib.Core.List.{[], _∷_};
