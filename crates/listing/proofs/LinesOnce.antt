@@ -1,4 +1,4 @@
--- For each public function, at most one reply and one content of the lent buffer satisfy the contract, taken as it stands.
+-- At most one reply and one content of the lent buffer satisfy each public function's contract, as the prover reads it.
 use denote.Ref.{now}
 use Rattle.record.proofs.Once.{Once, LeftOnce}
 use Rattle.text.proofs.Once.{wrote-once}

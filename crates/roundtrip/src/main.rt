@@ -1,5 +1,5 @@
 // A record of each kind is made, split, collected and printed: the code on each kind's page of the
-// reference. Then records follow of which parts are lost.
+// reference. Then come records of which some parts are lost.
 // The output is compared with the file `stdout`, which tools/roundtrip.py writes from document 01
 // alone.
 mod cross_trainer;

@@ -106,8 +106,8 @@ fn show_part(part: usize, parts: usize, octets: &[u8]) {
     print(b"\n");
 }
 
-// Sends one part of a record, which here means to print it; returns the number of parts, or 0 if it
-// is refused.
+// Sends one part of a record, which here means printing it; returns the number of parts, or 0 if
+// it is refused.
 fn send(record: Record, part: usize, out: &mut [u8]) -> usize {
     match split(record, PAYLOAD, part, out) {
         SplitAnswer::Part(extent) => {

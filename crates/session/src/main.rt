@@ -88,7 +88,7 @@ fn begin(opened: Console) -> Console {
 }
 
 // Client 0 starts the machine. What client 1 writes is refused with 20 until that response is
-// confirmed; then it is answered 04 and 05, since client 0 holds control.
+// confirmed; after that it is answered 04 and 05, since client 0 holds control.
 fn start(begun: Console) -> Console {
     let mut console = write(begun, 0, &START_OR_RESUME);
     state(b"now: ", console);

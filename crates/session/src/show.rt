@@ -1,5 +1,5 @@
-// Each function makes a call of the control point and prints it as a line: it takes a console and
-// returns the console after the call. The last, `state`, prints the state of the machine.
+// The calls of the control point, each made and printed as a line: a function takes a console and
+// returns the console after the call. `state` prints the state of its machine.
 use output::first;
 use output::print;
 use output::print_number;

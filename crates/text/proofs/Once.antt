@@ -1,4 +1,4 @@
--- For each public function, at most one reply and one content of the lent buffer satisfy the contract, taken as it stands.
+-- At most one reply and one content of the lent buffer satisfy each public function's contract, as the prover reads it.
 use Prim.Native.Nat.{ℕ}
 use mathlib.Core.Path.{_≡_, sym, _∙_}
 use mathlib.Core.List.{List}
