@@ -8,7 +8,7 @@
 #include <string.h>
 #include <sys/mman.h>
 
-/* The fill differs from octet to octet, so that a copied one is seen. */
+/* The fill differs from octet to octet, so that a copied octet is noticed. */
 static uint8_t fill(size_t i)
 {
     return (uint8_t)(i * 7 + 3);
@@ -41,7 +41,10 @@ int fences_hold(void)
 
 #else
 
-/* A fence is as wide as the widest page that a processor here has, and the room between two holds the longest listing and a guard. */
+/*
+ * A fence is as wide as the largest page of a processor that runs this; the room between two fences
+ * holds the longest listing and a guard.
+ */
 #define FENCE 65536
 #define ROOM (16 * (size_t)FENCE)
 #define GUARD 32
@@ -92,7 +95,7 @@ static void stop(int signal)
     siglongjmp(stopped, signal);
 }
 
-/* Whether touching an octet is stopped, by reading it or by writing it. */
+/* Whether an access to an octet, a read or a write, is stopped. */
 static int stops(volatile uint8_t *octet, int write)
 {
     if (sigsetjmp(stopped, 1) != 0) {

@@ -1,19 +1,22 @@
-/* Areas to hand in to a call, each placed so that one octet too many, read or written, is seen. */
+/* Areas to pass to a call, each placed so that reading or writing one octet too many is noticed. */
 #ifndef AREAS_H
 #define AREAS_H
 
 #include <stddef.h>
 #include <stdint.h>
 
-/* What an area is handed in as: one of each at a time. */
+/* What an area is passed as: one of each at a time. */
 enum use { INPUT, OUTPUT, LENGTH, PARTS, USES };
 
 /*
- * Where an area stands: its end or its beginning against a fence, pages that nobody may touch, and guard octets on the other side. At a fence the
- * processor itself ends the program, so the library's own reads and writes are seen too, which were compiled with no checks.
+ * Where an area is placed: its end or its beginning touches a fence, which is pages that may not be
+ * accessed, and guard octets are on the other side. At a fence the processor itself stops the
+ * program, so an access by the library is noticed too, although it was compiled with no checks.
  *
- * With HEAP, for AddressSanitizer, each area is a heap block of exactly its length instead. That shows the faults of this folder's own C and of the
- * C library's calls. Of the library it would show only what went through such calls, and it makes none: the fences hold the library to its areas.
+ * With HEAP, for AddressSanitizer, each area is instead a heap block of exactly its length. That
+ * shows faults of this folder's own C and of its calls to the C library. Of the library under test
+ * it would show only faults inside such calls, and the library makes none: its own accesses are
+ * checked by the fences.
  */
 enum side { FENCE_BEHIND, FENCE_BEFORE };
 #ifdef HEAP
@@ -25,20 +28,22 @@ enum side { FENCE_BEHIND, FENCE_BEFORE };
 struct area {
     uint8_t *octets;
     size_t length;
-    size_t before; /* how many guard octets stand before it */
-    size_t behind; /* and how many behind it */
+    size_t before; /* how many guard octets are before it */
+    size_t behind; /* and how many are after it */
 };
 
-/* Whether the fences stop a read and a write: where they do not, they show nothing. */
+/* Whether the fences stop a read and a write: if they do not, they show nothing. */
 int fences_hold(void);
 
-/* An area of so many octets, each filled with its own number; no octets where there is no memory. */
+/*
+ * An area of `length` octets, each filled by its position; `octets` is null if there is no memory.
+ */
 struct area area(enum use use, enum side side, size_t length);
 
-/* Whether the area begins with what was written, and behind that and around it all is as it was filled. */
+/* Whether the area begins with what was written, and all after that and around it is unchanged. */
 int area_holds(const struct area *a, const uint8_t *written, size_t length);
 
-/* The area is not used any more. */
+/* Ends the use of an area. */
 void area_done(struct area *a);
 
 #endif

@@ -1,7 +1,7 @@
-// Records and damage by chance, from a fixed seed.
+// Random records and damage, from a fixed seed.
 use crate::rules::{group_octets, layout, set_of, Groups};
 
-// Numbers from a fixed seed.
+// Random numbers from a fixed seed.
 pub struct Chance(pub u64);
 
 impl Chance {
@@ -27,7 +27,7 @@ fn any_octets(c: &mut Chance, count: usize) -> Vec<u8> {
     (0..count).map(|_| if c.below(4) == 0 { c.pick(&[0, 127, 128, 255]) as u8 } else { c.next() as u8 }).collect()
 }
 
-// A record with the groups whose bits are told, and its direction.
+// A record with the groups whose bits `is_present` chooses, and its direction.
 fn record_of(c: &mut Chance, kind: u32, mut is_present: impl FnMut(&mut Chance, usize) -> bool) -> (Groups, u32) {
     let mut groups = Groups::new();
     for (bit, group) in layout(kind).iter().enumerate() {
@@ -56,12 +56,13 @@ pub fn any_record(c: &mut Chance, kind: u32) -> (Groups, u32) {
     })
 }
 
-// Some optional groups of a kind, in the same ways.
+// Some optional groups of a kind, chosen in the same ways.
 pub fn any_set(c: &mut Chance, kind: u32) -> u32 {
     set_of(&any_record(c, kind).0)
 }
 
-// Reserved bits set, octets added behind, cut short, More Data turned, an octet changed, or left as it is.
+// Reserved bits are set, octets added at the end, the notification cut short, More Data inverted, an octet
+// changed, the length brought near 512 octets, or nothing is done.
 pub fn damaged(c: &mut Chance, kind: u32, s: &mut Vec<u8>) {
     match c.below(12) {
         0 => s[1] |= 0xe0 & c.next() as u8,

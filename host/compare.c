@@ -1,4 +1,7 @@
-/* Holds the library to cases on standard input, which `oracle` writes: each reply, each number and every octet, in areas that show one too many. */
+/*
+ * Checks the library against the cases on standard input, which `oracle` writes: each reply, each
+ * number and every octet, in areas that show an access past their ends.
+ */
 #include <stdio.h>
 #include <stdlib.h>
 #include <string.h>
@@ -6,7 +9,7 @@
 #include "areas.h"
 #include "hordivasz.h"
 
-/* A case of either call: what is handed in, and what must come of it. */
+/* A case of either call: what is passed in, and the expected result. */
 struct split_case {
     size_t kind, payload, part, lent, record_length, refusal, parts, length;
     uint8_t *record, *piece;
@@ -65,7 +68,7 @@ static struct area lent(enum use use, enum side side, size_t length)
     return a;
 }
 
-/* An area with what is handed in. */
+/* An area with the input. */
 static struct area handed(enum side side, const uint8_t *from, size_t length)
 {
     struct area a = lent(INPUT, side, length);
@@ -73,7 +76,7 @@ static struct area handed(enum side side, const uint8_t *from, size_t length)
     return a;
 }
 
-/* What an area holds after a call, octet for octet. */
+/* Checks what an area holds after a call, octet by octet. */
 static void settle(const char *what, struct area *a, const uint8_t *written, size_t length)
 {
     if (!area_holds(a, written, length)) {
@@ -82,7 +85,7 @@ static void settle(const char *what, struct area *a, const uint8_t *written, siz
     area_done(a);
 }
 
-/* A number handed out where the call was not refused, and left as it was where it was. */
+/* Checks a number that the call must store if it is not refused, and leave unchanged if it is. */
 static void settle_number(const char *what, struct area *a, size_t refusal, size_t expected)
 {
     uint8_t written[sizeof expected];

@@ -1,9 +1,15 @@
-/* A plugin of the emulator qemu-user: counts the instructions that a program executes, and says the count at its end. */
+/*
+ * A plugin of the emulator qemu-user: counts the instructions that a program executes, and prints
+ * the count when the program ends.
+ */
 #include <inttypes.h>
 #include <stdint.h>
 #include <stdio.h>
 
-/* What this takes of the emulator's plugin interface, version 1; Debian has no package with its header. */
+/*
+ * The part of the emulator's plugin interface, version 1, that is used here; Debian has no package
+ * with its header.
+ */
 typedef uint64_t qemu_plugin_id_t;
 struct qemu_plugin_tb;
 struct qemu_plugin_insn;
@@ -28,7 +34,10 @@ static void executed(unsigned processor, void *data)
     count++;
 }
 
-/* Each instruction is counted by itself: of a block that ends at a page's end, the emulator names one instruction more than it executes. */
+/*
+ * Each instruction is counted by itself: for a block that ends at a page's end, the emulator
+ * reports one instruction more than it executes.
+ */
 static void translated(qemu_plugin_id_t id, struct qemu_plugin_tb *block)
 {
     size_t i;

@@ -1,11 +1,11 @@
-// Records for the typed split: well formed ones, and each with one thing wrong.
+// Records for the typed splitter: well formed ones, and each with one thing wrong.
 use crate::chance::{record_with, Chance};
 use crate::replay::{SHORT, SIGNED};
 use crate::rules::{fits, layout, names, values};
 use crate::scripts::hex;
 use std::io::{self, Write};
 
-// A record as the line of a script has it.
+// A record as a line of a script gives it.
 #[derive(Clone)]
 struct Form {
     kind: u8,
@@ -43,14 +43,15 @@ fn limits(field: usize) -> (i64, i64) {
     }
 }
 
-// Values that a field's type holds: its ends, and those beside the ends of every width.
+// Values that a field's type can hold: its limits, and those next to the limits of every width.
 fn tried(field: usize) -> impl Iterator<Item = i64> {
     let (least, greatest) = limits(field);
     let all = [-32768, -1, 0, 1, 255, 256, 32767, 32768, 65535, 65536, 16777215, 16777216, 4294967295];
     all.into_iter().filter(move |x| (least..=greatest).contains(x))
 }
 
-// A record with each value at each of its fields: one that its width does not hold, or that is not 0 where the field is absent, is 13.
+// A record with each value in each of its fields: a value that does not fit the width, or is not 0 in an absent field, gives 13.
+// Returns how many such values there are.
 fn each_field(out: &mut impl Write, form: &Form) -> io::Result<usize> {
     let layout = layout(form.kind as u32);
     let mut wrong = 0;
@@ -65,7 +66,7 @@ fn each_field(out: &mut impl Write, form: &Form) -> io::Result<usize> {
     Ok(wrong)
 }
 
-// Directions, bits of the set, kinds, payloads, parts and rooms, each tried by itself.
+// Directions, bits of the set, kinds, payloads with parts, and lengths of the lent buffer, each tried by itself.
 fn each_other(out: &mut impl Write, form: &Form) -> io::Result<()> {
     for direction in [0, 1, 2, 255] {
         Form { direction, ..form.clone() }.put(out, 20, 0, 64)?;

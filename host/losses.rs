@@ -4,20 +4,20 @@ use crate::rules::{pieces, Answer, Collection, Groups};
 use crate::scripts::{hex, opening};
 use std::io::{self, Write};
 
-// A notification: whose record it is of, whether it is the last of its parts, and its octets.
+// A notification: the number of its record, whether it is the record's last part, and its octets.
 struct Sent {
     record: usize,
     last: bool,
     octets: Vec<u8>,
 }
 
-// Whether so many or more in a row are missing.
+// Whether k or more in a row are missing.
 fn has_gap(arrived: &[bool], k: usize) -> bool {
     arrived.windows(k).any(|window| !window.contains(&true))
 }
 
-// Demand 3 of one answer: "at each last notification that arrives, hands out exactly the record it belongs to or refuses as incomplete; it hands it
-// out whenever all k arrived; at no other notification does it hand out anything".
+// What demand 3 asks of one answer: "at each last notification that arrives, hands out exactly the record it belongs to or refuses as incomplete; it
+// hands it out whenever all k arrived; at no other notification does it hand out anything".
 fn is_demanded(answer: &Result<Answer, u64>, sent: &Sent, record: &(Groups, u32), whole: bool) -> bool {
     match answer {
         Ok(Answer::Record(groups, direction)) => sent.last && (groups, direction) == (&record.0, &record.1),
@@ -26,7 +26,7 @@ fn is_demanded(answer: &Result<Answer, u64>, sent: &Sent, record: &(Groups, u32)
     }
 }
 
-// Some records of a kind and set, in k parts each, with each allowed loss; how many losses there are.
+// Some records of a kind and set, in k parts each, with each allowed loss; returns how many losses there are.
 fn each_loss(out: &mut impl Write, kind: u32, set: u32, payload: usize, records: &[(Groups, u32)]) -> io::Result<usize> {
     let parts: Vec<Vec<Vec<u8>>> = records.iter().map(|(groups, direction)| pieces(kind, groups, *direction, payload)).collect();
     let k = parts[0].len();
@@ -53,7 +53,7 @@ fn each_loss(out: &mut impl Write, kind: u32, set: u32, payload: usize, records:
     Ok(count)
 }
 
-// A kind, a set and a payload for each number of parts, and some whose last part names no optional group.
+// Kind, set, payload and number of parts; in some the last part names no optional group.
 const CASES: [(u32, u32, usize, usize); 11] = [
     (6, 0x1FFE, 30, 1),
     (2, 0x7FFE, 512, 1),
@@ -68,8 +68,8 @@ const CASES: [(u32, u32, usize, usize); 11] = [
     (2, 0x0FFE, 20, 3),
 ];
 
-// How many losses there are in all, by the number of parts. Of n records in one part each, 2 to the n: 30 for n of 1 to 4. In two parts each, as many as
-// there are words of 2n letters without two absences in a row: 3 + 8 + 21 + 55. In three, without three in a row: 7 + 44 + 274 + 1705.
+// How many losses there are in all, by the number of parts. For n records in one part each there are 2 to the n: 30 for n from 1 to 4. In two parts
+// each, those of 2n notifications without two missing in a row: 3 + 8 + 21 + 55. In three, those of 3n without three in a row: 7 + 44 + 274 + 1705.
 const ALLOWED: [usize; 4] = [0, 3 * 30, 6 * 87, 2 * 2030];
 
 pub fn losses(out: &mut impl Write, c: &mut Chance) -> io::Result<()> {

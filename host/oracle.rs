@@ -1,7 +1,7 @@
-// Writes cases from a fixed seed, each with what must come of it, for `compare` to hold the library to. With arguments: `capture SIZE` writes a
-// capture of that size, of kind 1 + SIZE mod 6, and `capture SIZE-whole`, `SIZE-length` and `SIZE-notification` one that ends so; `list` the listing of
-// the capture on standard input; `calls`, `streams`, `losses` and `forms` a script for the program replay, and `replay` what it must print for the script on
-// standard input; `whole KIND` and `full KIND` what `bench` takes.
+// Writes cases from a fixed seed, each with the expected result, against which `compare` checks the library. With arguments: `capture SIZE` writes a
+// capture of that size, of kind 1 + SIZE mod 6, and `capture SIZE-whole`, `SIZE-length` and `SIZE-notification` one that ends with a whole notification,
+// inside a length, and inside a notification; `list` the listing of the capture on standard input; `calls`, `streams`, `losses` and `forms` a script for
+// the program replay, and `replay` what it must print for the script on standard input; `whole KIND` and `full KIND` the inputs of `bench`.
 mod chance;
 mod forms;
 mod losses;
@@ -67,7 +67,7 @@ fn split_case(out: &mut impl Write, c: &mut Chance) -> io::Result<()> {
     put_split(out, kind, &s, payload, part, lent)
 }
 
-// A capture of records in parts, some damaged and some missing, of at least so many octets.
+// A capture of records in parts, some damaged and some missing, of at least `least` octets.
 fn any_capture(c: &mut Chance, kind: u32, least: usize) -> Vec<u8> {
     let mut capture = vec![kind as u8];
     let payload = 20 + c.below(30) as usize;
@@ -95,7 +95,7 @@ fn put_pieces(capture: &mut Vec<u8>, c: &mut Chance, kind: u32) {
     }
 }
 
-// A capture of just so many octets: it ends with a notification, inside the length of one, or inside one.
+// A capture of exactly `size` octets: it ends with a notification, inside the length of one, or inside one.
 fn sized_capture(c: &mut Chance, size: usize, end: &str) -> Vec<u8> {
     let kind = 1 + size as u32 % 6;
     let cut: &[u8] = match end {
@@ -129,7 +129,7 @@ fn list_case(out: &mut impl Write, c: &mut Chance, least: usize) -> io::Result<(
     put_list(out, &capture, c)
 }
 
-// A capture of whole records in parts of 20 octets, none damaged and none missing: as many as 64 KiB hold, with the kind as the seed.
+// A capture of whole records in parts of 20 octets, none damaged and none missing: as many as fit in 64 KiB, with the kind as the seed.
 fn whole_capture(kind: u32) -> Vec<u8> {
     let mut c = Chance(kind as u64);
     let mut capture = vec![kind as u8];
@@ -150,7 +150,7 @@ fn full_record(kind: u32) -> Vec<u8> {
     notification(kind, &all, (kind == 2) as u32)
 }
 
-// Every kind with all groups, payloads near the edges of its parts, buffers of every length.
+// Every kind with all groups, at payloads near those where its number of parts changes, with buffers of every length up to 63.
 fn every_length(out: &mut impl Write) -> io::Result<()> {
     for kind in 1..=6 {
         let s = full_record(kind);

@@ -1,4 +1,7 @@
-/* Splitting and listing as a C programmer would write them who wants them quick and proves nothing; `compare` holds them to the same cases. */
+/*
+ * Splitting and listing as a C programmer would write them for speed, with nothing proved;
+ * `compare` checks them against the same cases as the library.
+ */
 #include "plain.h"
 
 #include <string.h>
@@ -7,13 +10,16 @@
 #define LONGEST_NOTIFICATION 512
 #define MOST_FIELDS 21
 
-/* A field: the bit of its group, its width, and its name with a `=` behind. */
+/* A field: the bit of its group, its width, and its name followed by `=`. */
 struct field {
     uint8_t bit, octets, is_signed, name_length;
     const char *name;
 };
 
-/* A kind: how many octets its flags have, its fields in the order of the wire, how many octets its groups have, and the set of the optional ones. */
+/*
+ * A kind: how many octets its flags have, its fields in wire order, how many octets each group has,
+ * and the set of its optional groups.
+ */
 struct kind {
     size_t flags, field_count;
     const struct field *fields;
@@ -101,7 +107,7 @@ static uint32_t heading(const struct kind *k, const uint8_t *octets, size_t leng
     return length < k->flags + groups_length(k, *set) ? 32 : 0;
 }
 
-/* The longest run of the lowest groups of a set that fits behind the flags. */
+/* The longest run of the lowest groups of a set that fits after the flags. */
 static uint32_t run_of(const struct kind *k, uint32_t set, size_t payload)
 {
     uint32_t run = 0;
@@ -118,7 +124,10 @@ static uint32_t run_of(const struct kind *k, uint32_t set, size_t payload)
     return run;
 }
 
-/* The groups stand in the record in the order in which the parts send them, so a part is the flags, the main group if last, and one piece. */
+/*
+ * A record has its groups in the order in which the parts send them, so a part is the flags, the
+ * main group if it is the last part, and one contiguous piece of the record.
+ */
 static void put_part(const struct kind *k, uint32_t set, uint32_t direction, const uint8_t *record, size_t from, uint8_t *out)
 {
     uint32_t flags = (set & k->listed) | (~set & 1) | direction << 15;
@@ -168,7 +177,7 @@ uint32_t plain_split(uint32_t kind, const uint8_t *record, size_t record_length,
     return 0;
 }
 
-/* Puts a line behind a text, or only measures it where there is no text; its length. */
+/* Writes a line at `out`, or only measures it if `out` is null; returns its length. */
 static inline size_t put_line(uint8_t *out, const char *name, size_t name_length, uint32_t n, int negative)
 {
     size_t length = name_length + (negative != 0) + 1;
@@ -194,7 +203,7 @@ static inline size_t put_line(uint8_t *out, const char *name, size_t name_length
 
 #define LINE(out, name, n) put_line(out, name, sizeof name - 1, n, 0)
 
-/* The next place of a text, if there is one. */
+/* The next position in a text, or null if there is no text. */
 static inline uint8_t *behind(uint8_t *out, size_t at)
 {
     return out == NULL ? NULL : out + at;
@@ -231,7 +240,7 @@ static inline void read_values(const struct kind *k, uint32_t set, const uint8_t
     }
 }
 
-/* The listing of a capture, or only its length where there is no place for the text. */
+/* Writes the listing of a capture, or only measures it if `out` is null; returns its length. */
 static inline size_t put_listing(const uint8_t *capture, size_t length, uint8_t *out)
 {
     uint32_t kind, held = 0, count = 1;
@@ -272,7 +281,7 @@ size_t plain_list_length(const uint8_t *capture, size_t capture_length)
     return put_listing(capture, capture_length, NULL);
 }
 
-/* With 14 nothing may be written, so the listing is measured first. */
+/* On refusal 14 nothing may be written, so the listing is measured first. */
 uint32_t plain_list(const uint8_t *capture, size_t capture_length, uint8_t *out, size_t out_length, size_t *length)
 {
     size_t size = plain_list_length(capture, capture_length);

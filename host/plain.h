@@ -1,4 +1,7 @@
-/* The library's calls in plain C, with the same arguments and answers: what the library's speed is measured against. */
+/*
+ * The library's calls in plain C, with the same arguments and answers, for comparison with the
+ * library's speed.
+ */
 #ifndef PLAIN_H
 #define PLAIN_H
 

@@ -1,4 +1,7 @@
-/* repeat ours|plain list|split FILE TIMES: does one work that often, by the library or in plain C, and writes what came of the last time. */
+/*
+ * repeat ours|plain list|split FILE TIMES: runs one operation that many times, by the library or in
+ * plain C, and writes the result of the last.
+ */
 #include <stdio.h>
 #include <stdlib.h>
 #include <string.h>
@@ -19,7 +22,7 @@ struct calls {
 static uint8_t in[LONGEST_CAPTURE];
 static uint8_t out[LONGEST_LISTING];
 
-/* The listing of a capture; its length. */
+/* Lists the capture that is the input; returns the listing's length. */
 static size_t listed(const struct calls *calls, size_t in_length)
 {
     size_t length = 0;
@@ -29,7 +32,10 @@ static size_t listed(const struct calls *calls, size_t in_length)
     return length;
 }
 
-/* All parts of a record, one behind the other; their length. The input is the kind, then the record. */
+/*
+ * Puts all parts of a record one after the other; returns their length. The input is the kind, then
+ * the record.
+ */
 static size_t split(const struct calls *calls, size_t in_length)
 {
     size_t at = 0, part, parts = 1;

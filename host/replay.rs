@@ -16,7 +16,7 @@ fn hex(octets: &[u8]) -> String {
     octets.iter().map(|x| format!(" {x:02X}")).collect()
 }
 
-// A number of so many octets from a place on, least first; what is not there is 0.
+// A number of `count` octets from `place` on, least octet first; missing octets are 0.
 fn at(s: &[u8], place: usize, count: usize) -> i64 {
     (0..count).map(|i| (s.get(place + i).copied().unwrap_or(0) as i64) << (8 * i)).sum()
 }
@@ -78,7 +78,7 @@ fn collected(kind: u32, answer: &Result<Answer, u64>, dropped: bool) -> String {
     format!("{said} dropped={}", dropped as u8)
 }
 
-// The names whose fields are signed in a record, and those of one octet; a distance has four, and the others two.
+// The fields, by number, that are signed in a record, and those of one octet; distance has four, the others two.
 pub const SIGNED: [usize; 7] = [7, 8, 20, 21, 25, 26, 27];
 pub const SHORT: [usize; 5] = [3, 15, 16, 17, 28];
 

@@ -1,5 +1,5 @@
-// Records, splitting, collecting and listing once more, and in rules/control.rs the control point, written from document 01 alone: they share no code
-// and no table with the library.
+// A second implementation of records, splitting, collecting and listing, and in rules/control.rs of the control point, written from document 01
+// alone: it shares no code and no table with the library.
 pub mod control;
 
 use std::collections::BTreeMap;
@@ -130,7 +130,7 @@ pub fn pieces(kind: u32, record: &Groups, direction: u32, payload: usize) -> Vec
     }
 }
 
-// A part of a record, and how many there are; 15, then 14.
+// A part of a record, and the number of parts; or 15, then 14.
 fn part_of(kind: u32, record: &Groups, direction: u32, payload: u64, part: u64, lent: usize) -> Result<(Vec<u8>, usize), u64> {
     let all = pieces(kind, record, direction, payload as usize);
     if part >= all.len() as u64 {
@@ -162,7 +162,7 @@ pub fn split(kind: u32, s: &[u8], payload: u64, part: u64, lent: usize) -> Resul
     part_of(kind, &record, direction, payload, part, lent)
 }
 
-// The names of all fields, in the order in which the table first has them, the main groups before all others.
+// The names of all fields, in the order in which the table first names them, the main groups before all others.
 pub fn names() -> Vec<&'static str> {
     let layouts: Vec<Vec<Group>> = (1..=6).map(layout).collect();
     let main = layouts.iter().flat_map(|groups| &groups[0]);

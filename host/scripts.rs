@@ -1,4 +1,4 @@
-// Scripts for the program `replay`, from a fixed seed. Each has to reach what it is for: where it does not, it stops.
+// Scripts for the program `replay`, from a fixed seed. Each must reach the cases that it is meant for: if it misses one, writing it fails.
 use crate::chance::{any_record, any_set, damaged, record_with, Chance};
 use crate::replay::Replay;
 use crate::rules::control::{parameter_length, Mode, Ranges};
@@ -10,7 +10,7 @@ pub fn hex(octets: &[u8]) -> String {
     octets.iter().map(|x| format!("{x:02X}")).collect()
 }
 
-// What a script has come by, in words.
+// The cases that a script has reached, in words.
 struct Seen(BTreeSet<String>);
 
 impl Seen {
@@ -25,7 +25,7 @@ fn any_octets(c: &mut Chance, count: u64) -> Vec<u8> {
     (0..count).map(|_| c.next() as u8).collect()
 }
 
-// A range between two limits: all of it, one value, an end, or any; now and then with its least value above its greatest.
+// A range between two limits: all of it, one value, one that begins or ends at a limit, or any; now and then a reversed one.
 fn any_range(c: &mut Chance, least: i64, greatest: i64) -> (i64, i64) {
     let span = (greatest - least + 1) as u64;
     let (a, b) = (least + c.below(span) as i64, least + c.below(span) as i64);
@@ -74,7 +74,7 @@ fn any_client(c: &mut Chance) -> u8 {
     }
 }
 
-// A parameter's octets: of a target with a range, values at its ends and beside them.
+// A parameter's octets: for a target with a range, values at its ends, next to them, between them, and any.
 fn parameter(c: &mut Chance, op: u8, ranges: &Ranges) -> Vec<u8> {
     let length = parameter_length(op).unwrap_or(2) as u64;
     match op {
@@ -129,7 +129,8 @@ fn call(c: &mut Chance, replay: &Replay) -> String {
     }
 }
 
-// What a line came by: the word and the refusal; of a write the op code, its parameter where it is 08's, what the machine did before it, and the result.
+// Notes the case that a line reached: its word and its outcome; for a write also the op code and the result, and for 07 and 08 the machine's state
+// before it and the parameter.
 fn note(seen: &mut Seen, line: &str, mode: Mode, said: &str) {
     let word = line.split(' ').next().unwrap();
     let outcome = said.split(' ').next().unwrap();
@@ -192,7 +193,7 @@ pub fn opening(kind: u32, told: Option<u32>) -> String {
     }
 }
 
-// Octets that are nothing in particular, at times longer than a notification can be.
+// Random octets, at times more than a notification can have.
 fn garbage(c: &mut Chance) -> Vec<u8> {
     let length = if c.below(6) == 0 { c.pick(&[511, 512, 513, 700]) } else { c.below(40) };
     any_octets(c, length)

@@ -1,15 +1,15 @@
-"""The cases of collections that tools/vectors.py runs: each has its answers as document 01's rules have them, worked out by hand.
+"""The cases of collections that tools/vectors.py runs, each with its answers by document 01's rules, worked out by hand.
 
-Most are of an indoor bike's average speed (flags 02), cadence (04) and average cadence (08); flags with 01 are those of a part with More Data 1.
+Most are of an indoor bike's average speed (flags 02), cadence (04) and average cadence (08); a part whose flags include 01 has More Data 1.
 """
 
-# Words, kind, and the told set: none where the collection is open.
+# Words, kind, and the told set: None if the collection is open.
 OPENINGS = [
     ("kind 0", 0, None), ("kind 7", 7, None), ("11 before 35", 7, 1), ("bit 0", 6, 1), ("bit 13 of a bike", 6, 1 << 13),
     ("bit 15 of a cross trainer", 2, 1 << 15), ("bit 31", 2, 1 << 31), ("all groups", 6, 8190), ("all groups", 2, 32766),
     ("no group", 1, 0)]
 
-# Kind and told set, then the cases: words, notifications, and the answers as the rules have them.
+# Kind and told set, then the cases: words, notifications, and the answers by the rules.
 COLLECTIONS = [
     (6, None, [
         ("the sample", "44 00 C4 09 B4 00 FA 00", "record 68"),

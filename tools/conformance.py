@@ -1,8 +1,8 @@
 #!/usr/bin/env python3
 """Writes what the program `conformance` must print, from document 01 and source document 003 alone: tools/conformance.py > crates/conformance/stdout
 
-Every server test case has its line, in the order of source document 003, with what was read, notified or sent, and the verdict: `pass` where the
-outcome is the one that the test suite expects, `departs` where document 01 has another or asks for a step more, `outside` where what is tested lies
+Every server test case has its line, in the order of source document 003, with what was read, notified or sent, and the verdict: `pass` if the
+outcome is the one that the test suite expects, `departs` if document 01 has another or asks for one more step, `outside` if what is tested lies
 outside document 01.
 """
 import sys
@@ -122,7 +122,7 @@ def bits_with(kind, names):
 
 
 def notified(kind, groups):
-    """The notifications of a record at the default payload, each held to what the test suite looks at."""
+    """The notifications of a record at the default payload, each checked for what the test suite looks at."""
     values = sample(SAMPLE, kind, groups)
     sets = part_sets(kind, groups, 20)
     text, named = "", 0
@@ -147,7 +147,7 @@ def data_case(number, kind, groups, verdict, label="", feature=None):
 def kind_cases(kind):
     number = COMPLETE[kind]
     energy = 1 << bits_with(kind, ["total_energy", "energy_per_hour", "energy_per_minute"])[0]
-    # BV-27 looks for the step rate beside the step climber's main group.
+    # BV-27 looks for the step rate in the same notification as the step climber's main group.
     late = "; the step rate is not in the last notification" if kind == 3 else ""
     data_case(number, kind, all_groups(kind) & ~energy, "pass", " steps 1 to 5 without energy")
     data_case(number, kind, all_groups(kind), departs(ONE_OCTET_ENERGY + late), " steps 1 to 5 with energy")

@@ -1,7 +1,7 @@
 """The places in the libraries' code that an edit may change, and the list of wrong programs: what tools/strength.py tries.
 
 A place is one token of code that runs: an operator, a numeral, a named constant, a field, a variant, true or false, or a key. Comments,
-contracts, imports, declared types and the heads of functions are passed over.
+contracts, imports, declared types and the heads of functions are skipped.
 """
 import os
 import re
@@ -9,10 +9,10 @@ import sys
 
 LIBRARIES = ["record", "service", "text", "reference", "output", "listing", "demands", "phone"]
 
-# A program whose proof rests on more of a library than its calls' contracts: how long a step's lines are.
+# A program whose proof depends on more of a library than the contracts of its calls: on how long a step's lines are.
 RELYING = ["ftlist"]
 
-# What its calls print is promised by no contract, so that an edit by chance says nothing; only its other calls are tried.
+# The crate whose calls print: no contract says what they print, so a random edit of them shows nothing; only its other calls are tried.
 PRINTING = "output"
 
 TOKEN = re.compile(
@@ -38,7 +38,7 @@ def tokens_of(text):
 
 
 def behind(tokens, i, ends):
-    """The index behind the first of some signs that stands in no bracket."""
+    """The index after the first of the signs `ends` that is in no bracket."""
     depth = 0
     while i < len(tokens):
         t = tokens[i].text
@@ -50,12 +50,12 @@ def behind(tokens, i, ends):
 
 
 def closed(tokens, i):
-    """The index behind the bracket that closes the one at i."""
+    """The index after the bracket that closes the one at i."""
     return behind(tokens, i + 1, {")", "]", "}"})
 
 
 def body(tokens, i):
-    """The index of the bracket that opens the body of the function whose head is at i: it stands behind the contract."""
+    """The index of the bracket that opens the body of the function whose head is at i: it follows the contract."""
     while tokens[i].text != "{" or tokens[i - 1].text in ("requires", "ensures"):
         i = closed(tokens, i) if tokens[i].text in "([{" else i + 1
     return i
@@ -138,7 +138,7 @@ def misspelt(text):
 
 
 def constants(source, file, name, by_path):
-    """The other constants of a family, declared one after the other with the same type, that are within reach here."""
+    """The other constants of a family, which are declared one after the other with the same type, that can be named here."""
     named = {token.text for token in tokens_of(source.text[file])}
     found = set()
     for family, value in source.constants[name]:
@@ -248,7 +248,8 @@ def public_functions(source):
 
 
 def full_name(source, program):
-    """The full name of the function that a wrong program is one of; the edit may stand in a helper in another file, of a module inside its own first."""
+    """The full name of the function that a wrong program gets wrong. It may be in another file than the edit: the edited file comes first, then the
+    file of the module around it, then the rest of the crate."""
     public = public_functions(source)
     crate = program.file.split("/")[0]
     outer = program.file.rpartition("/")[0] + ".rt"
@@ -264,7 +265,7 @@ def untried(source, programs):
 
 
 def region(text, name, old):
-    """Where a text stands in the running code of a function or constant; it stands there once."""
+    """Where a text is in the running code of a function or constant; it must occur there once."""
     tokens = tokens_of(text)
     for i, token in enumerate(tokens):
         if token.text == name and i and tokens[i - 1].text in ("fn", "const"):
@@ -272,6 +273,6 @@ def region(text, name, old):
             last = behind(tokens, first, {";"}) if tokens[i - 1].text == "const" else closed(tokens, first)
             start, stop = tokens[first].start, tokens[last - 1].end
             if text.count(old, start, stop) != 1:
-                sys.exit(f"strength: `{old}` stands {text.count(old, start, stop)} times in {name}")
+                sys.exit(f"strength: `{old}` occurs {text.count(old, start, stop)} times in {name}")
             return text.index(old, start)
     sys.exit(f"strength: no function or constant {name}")

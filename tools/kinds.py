@@ -14,7 +14,7 @@ UNITS = {"inclination": "tenths of a percent ", "ramp_angle": "tenths of a degre
 STEPS = {"step_rate": "steps per minute "}
 PACES = {"pace": "time per 500 meters ", "average_pace": "time per 500 meters "}
 
-# Source document 000, tables 4.5 to 4.10: the feature that each group of each kind answers to, by the group's name here
+# Source document 000, tables 4.5 to 4.10: the feature that each group of each kind belongs to, by the group's name here
 ANSWERS = {
     "average_speed": 0, "cadence": 1, "average_cadence": 1, "average_stroke_rate": 1, "distance": 2, "slope": 3, "gain": 4, "positive_gain": 4, "pace": 5,
     "average_pace": 5, "step_rate and average_step_rate": 6, "step_rate": 6, "average_step_rate": 6, "resistance": 7, "stride_count": 8, "energy": 9,
@@ -109,7 +109,7 @@ def splitting():
 
 
 def place_of(kind, field):
-    """The bit of a field's group, or `main`, and its width; nothing where the kind has no such field."""
+    """The bit of a field's group, or `main`, and its width; nothing if the kind has no such field."""
     for bit, group in enumerate(KINDS[kind]):
         for name, width in group:
             if name == field:
@@ -118,12 +118,12 @@ def place_of(kind, field):
 
 
 def answering(kind, feature):
-    """The bits of a kind's groups that answer to a feature."""
+    """The bits of a kind's groups that belong to a feature."""
     return " ".join(str(bit) for bit, group in enumerate(KINDS[kind]) if bit and ANSWERS[group_name(bit, group)] == feature)
 
 
 def all_kinds(features):
-    """With the names of the features, by their bits; the last, user data retention, is of no group."""
+    """`features`: the names of the features, by their bits; the last, user data retention, has no group."""
     print("\n# All kinds\n\n## Kinds\n")
     table(["kind", "name", "octets of flags", "octets with all groups", "parts at payload 20"],
           [(kind, name, flags_length(kind), length_of(kind, range(len(KINDS[kind]))), len(part_sets(kind, all_groups(kind), 20)))

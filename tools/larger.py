@@ -1,7 +1,7 @@
-"""Edits of the libraries' code that are no single token, found in its text by rule: what `tools/strength.py --larger` tries.
+"""Larger edits of the libraries' code than those of tools/edits.py, found in its text by rule: what `tools/strength.py --larger` tries.
 
-A statement left out: an assignment or a call. Two arguments of a call exchanged. A stale value: a use of a local, in its place something that the
-local was computed from. A turn left out: a loop's first, or its last. Two early returns exchanged that stand one behind the other.
+A statement left out: an assignment or a call. Two arguments of a call exchanged. A stale value: a use of a local, replaced by something that the
+local was computed from. A turn left out: a loop's first iteration, or its last. Two early returns exchanged that follow each other.
 """
 import random
 import time
@@ -14,7 +14,7 @@ EACH = 8  # how many of each rule are judged
 
 
 class Larger:
-    """A place, and what may stand there instead."""
+    """A place, and what may replace it."""
 
     def __init__(self, rule, file, text, start, end, candidates):
         self.rule, self.file, self.start, self.end, self.candidates = rule, file, start, end, candidates
@@ -35,7 +35,7 @@ def functions(tokens):
 
 
 def split_at(tokens, sign):
-    """The runs of tokens between signs that stand in no bracket."""
+    """The runs of tokens between signs that are in no bracket."""
     runs, depth = [[]], 0
     for token in tokens:
         depth += (token.text in "([{") - (token.text in ")]}")
@@ -75,7 +75,7 @@ def arguments(text, tokens):
 
 
 def stale(text, names, tokens):
-    """Uses of a local, in each place a parameter or an earlier local that it was computed from."""
+    """Uses of a local, each replaced by a parameter or an earlier local that it was computed from."""
     known = list(names)
     for i, token in enumerate(tokens):
         if token.text != "let":
@@ -92,7 +92,7 @@ def stale(text, names, tokens):
 
 
 def turns(text, tokens):
-    """Loops: the first turn left out, and the last."""
+    """Loops: the first iteration left out, and the last."""
     for i, token in enumerate(tokens):
         if token.text == "for":
             open_ = next(j for j in range(i, len(tokens)) if tokens[j].text == "{")
@@ -108,7 +108,7 @@ def turns(text, tokens):
 
 
 def early(tokens, i):
-    """The index behind an `if` at i whose block does nothing but return, and what it returns; or nothing."""
+    """The index after an `if` at i whose block does nothing but return, and what it returns; or None."""
     if i >= len(tokens) or tokens[i].text != "if":
         return None
     start = next((j for j in range(i, len(tokens)) if tokens[j].text == "{"), None)
@@ -121,7 +121,7 @@ def early(tokens, i):
 
 
 def returns(text, tokens):
-    """Two early returns, one behind the other, that give something else."""
+    """Two early returns, one after the other, that return different values."""
     for i in range(len(tokens)):
         first = early(tokens, i)
         second = first and early(tokens, first[0])
@@ -145,7 +145,7 @@ def larger_sites(source):
 
 
 def judge(copy, site, new):
-    """The verdict on an edit of all the libraries, and of what relies on more of them than their contracts."""
+    """The verdict of all the libraries on an edit, and of what depends on more of them than their contracts."""
     text = open(copy.path(site.file)).read()
     with copy.edited({site.file: text[:site.start] + new + text[site.end:]}):
         verdict, where, _ = copy.check_all()
@@ -155,7 +155,7 @@ def judge(copy, site, new):
 
 
 def try_larger(copy, source, asked):
-    """A sample of each rule; an edit that is no program is passed over."""
+    """A sample of each rule; an edit that is no program is skipped."""
     copy.together()
     rows, tally = [], {}
     for rule, sites in larger_sites(source).items():

@@ -7,7 +7,8 @@
     python3 tools/listing.py --damaged > examples/damaged.listing
 
 The capture is of a cross trainer: the kind with the longest flags, a direction, and most of the signed numbers. Each of its notifications is there for
-one sentence of document 01, and is held to the answer that was worked out by hand. The damaged one, a short example for a reader, is of an indoor bike.
+one sentence of document 01, and its answer is compared with the one worked out by hand. The damaged one, a short example for a reader, is of an indoor
+bike.
 """
 import sys
 
@@ -17,7 +18,7 @@ from vectors import GREATEST, KINDS, all_groups, answered, bits_of, collect, enc
 
 CROSS_TRAINER = 2
 
-# What each is there for, the notifications, and the answers as the rules of an open collection have them.
+# What each is there for, the notifications, and the answers by the rules of an open collection.
 NOTIFICATIONS = [
     ("backward; s16 at both ends", "C2 81 00 FF FF 00 00 00 80 FF 7F 00 80 FF 7F", "record 450 backward"),
     ("all groups in three parts, and the last part's direction", "3F 80 00 EE 03 47 42 0F FF 03 00 04 01 04 F2 03 F3 03 / "
@@ -93,7 +94,7 @@ def listing(capture):
 
 
 def capture():
-    """"a kind octet, then for each notification a u16 length and its octets", each held to its answer."""
+    """"a kind octet, then for each notification a u16 length and its octets", each compared with its answer."""
     octets, held = bytes([CROSS_TRAINER]), {}
     for words, text, worked in NOTIFICATIONS:
         shorts = []
@@ -106,7 +107,7 @@ def capture():
 
 
 def damaged():
-    """The damaged capture; each piece is held to the lines that it adds to those before it."""
+    """The damaged capture; each piece is checked against the lines that it adds to those before it."""
     octets, lines = b"", []
     for words, text, printed in DAMAGED:
         octets += bytes.fromhex(text)

@@ -12,7 +12,7 @@ from edits import LIBRARIES, RELYING
 
 LIMIT = 600  # seconds for one check
 
-# The libraries that are checked in one run: the top one, over the others as source.
+# The libraries that are checked in one run: the top one, with the others as source.
 TOP, UNDER = "demands", ["record", "service", "text", "listing", "phone", "reference"]
 ROOT = os.path.dirname(os.path.dirname(os.path.abspath(__file__)))
 
@@ -38,7 +38,7 @@ class Copy:
         return os.path.join(self.where, "crates", file)
 
     def run(self, *words):
-        """What a command of `rt` says, and its exit status: none where it was stopped."""
+        """What a command of `rt` prints, and its exit status: None if it took too long and was stopped."""
         run = subprocess.Popen(["rt", *words], cwd=self.where, stdout=subprocess.PIPE, stderr=subprocess.STDOUT, text=True,
                                errors="replace", start_new_session=True, env=dict(os.environ, RT_CUT="0", RT_JOBS="1"))
         try:
@@ -53,7 +53,7 @@ class Copy:
         return said, run.returncode
 
     def check(self, crate, *words):
-        """The verdict on a crate and what it rests on, where it was first refused, and all that was said."""
+        """The verdict on a crate and its dependencies, where it was first refused, and the whole output."""
         said, status = self.run("dev", crate, *words)
         if status == 0 and re.search(r"^logic=proved", said, re.M):
             return "survived", "", said
@@ -67,7 +67,7 @@ class Copy:
         """Has the libraries checked in one run from now on, so that what an edit does not touch is not checked again."""
         path = os.path.join(self.where, "crates.txt")
         lines = open(path).read()
-        with open(path, "w") as out:  # the top one stands alone there, and is given the others
+        with open(path, "w") as out:  # without its dependencies, which are given as source below
             out.write(re.sub(rf"^{TOP}:.*$", f"{TOP}:", lines, flags=re.M))
         self.words = [word for name in UNDER for word in ("--lib", f"{name}:{','.join(self.below[name])}=crates/{name}/src/lib.rt")]
         began = time.time()
@@ -90,7 +90,7 @@ class Copy:
 
     @contextlib.contextmanager
     def edited(self, texts):
-        """Has other texts in some files, which are put back whatever happens; a file that was not there goes, with its folder."""
+        """Gives some files other texts, and restores them whatever happens; a file that was not there is removed, with its folder."""
         kept = {file: (open(self.path(file)).read(), os.stat(self.path(file))) for file in texts if os.path.exists(self.path(file))}
         try:
             for file, text in texts.items():

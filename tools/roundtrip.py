@@ -56,7 +56,7 @@ def run(kind, direction, values):
 
 
 def answered(answer, dropped):
-    """What a collection of a cross trainer answers, of a record a field of each part: average speed is in the first, power in the second, speed in the last."""
+    """What a collection of a cross trainer answers; for a record, a field of each part: distance is in the first, power in the second, speed in the last."""
     if answer == "waiting":
         said = answer
     elif isinstance(answer, int):

@@ -1,6 +1,6 @@
 #!/usr/bin/env python3
-"""Prints what crates/session must print, from document 01's words alone: the calls of two clients of a treadmill's control point, a line each, and
-the state where a call changes it.
+"""Prints what crates/session must print, from document 01's words alone: the calls of two clients of a treadmill's control point, one per line,
+and the state when a call changes it.
 
     python3 tools/session.py > crates/session/stdout
 """
@@ -112,7 +112,7 @@ class Console:
             self.settings[op] = octets
 
     def write(self, client, octets):
-        """"Response: 80, op code, result. Each then awaits confirmation"; the status octets where it succeeds."""
+        """"Response: 80, op code, result. Each then awaits confirmation"; and the status octets if it succeeds."""
         result = self.result(client, octets[0], octets[1:])
         self.awaited = client
         said = ": response" + hexed([0x80, octets[0], result])
@@ -128,7 +128,7 @@ class Console:
         self.awaited = None if self.awaited == client else self.awaited
 
     def call(self, client, call, octets):
-        """Makes a call; what its line says of the answer."""
+        """Makes a call; returns the answer as its line shows it."""
         number = self.refusal(client, call, octets)
         if number:
             return f": refused {number}"

@@ -4,23 +4,23 @@
     python3 tools/strength.py                   a random sample of 60 edits of one token each, from a fixed seed
     python3 tools/strength.py --constants       an edit of each constant that is no table
     python3 tools/strength.py --wrong           the wrong programs of tools/wrong.txt, two at least for each public function
-    python3 tools/strength.py --larger          a sample of 40 edits that are no single token (tools/larger.py), from a fixed seed
+    python3 tools/strength.py --larger          a sample of 40 larger edits (tools/larger.py), from a fixed seed
     python3 tools/strength.py --twins           the twins of tools/twins/: which theorem notices each
     python3 tools/strength.py --list            the places that the sample is drawn from, and proves nothing
 
     -n N           how many edits are judged            --seed S       another sample
     --copy DIR     the copy to work in (target/strength) --only WORD   the wrong programs, twins or rules of --larger with this word
     --skip WORDS   the sample leaves out files with one of these words in their name (a comma between two)
-    --run          for each twin, a program too whose output is another
+    --run          for each twin, also a program whose output changes
     --report FILE  the table, in Markdown
 
-An edit is made in a copy of the repository and checked there by `rt dev`, and the file is put back. `refused`: the prover does not prove the code.
-`no program`: the compiler takes no such text; the edit says nothing, and another is drawn. `survived`: the crate is still proved, and so is every
-library above it, and `ftlist`. One prover runs at a time; what it said last is in the copy's target/last.out. The exit status is 0 where nothing survived.
+An edit is made in a copy of the repository and checked there by `rt dev`, and the file is restored. `refused`: the prover does not prove the code.
+`no program`: the compiler rejects the text; the edit shows nothing, and another is drawn. `survived`: the crate is still proved, and so is every
+library above it, and `ftlist`. One prover runs at a time; its last output is in the copy's target/last.out. The exit status is 0 if nothing survived.
 
-A twin is noticed `by computation` where a theorem is false whose proof is that both sides compute to the same, and `by a law` where another one is
-refused; the programs are then run in any case. `UNNOTICED`: all is proved, and no program writes anything else. `not carried through`: a function is
-not proved, so that an edit of its own proof is missing. Then, as where a twin is unnoticed, the exit status is 1.
+A twin is noticed `by computation` if a theorem fails whose proof is that both sides compute to the same value, and `by a law` if another theorem
+fails; then the programs are run even without --run. `UNNOTICED`: all is proved, and no program's output changes. `not carried through`: a function
+is not proved, since an edit of its own proof is missing. In the last two cases the exit status is 1.
 """
 import argparse
 import os
@@ -40,7 +40,7 @@ COUNT = 60
 
 
 def sample(copy, asked):
-    """A random sample, of one candidate at a place; or, of the constants, the first candidate that is a program."""
+    """A random sample, with one candidate for each place; or, for each constant, the first candidate that is a program."""
     source = Source(os.path.join(ROOT, "crates"))
     draw = random.Random(asked.seed)
     if asked.constants:

@@ -17,7 +17,7 @@ metabolic equivalent, elapsed, remaining, power, belt force and power output, us
 TARGETS = """speed, inclination, resistance, power, heart rate, energy, steps, strides, distance, training time, time in two heart rate zones,
 time in three heart rate zones, time in five heart rate zones, bike simulation, wheel circumference, spin down, cadence"""
 
-# "Op codes and parameters", from 00 on, with spin down in the place of 13, which they leave out.
+# "Op codes and parameters", from 00 on, with spin down at 13, which that list leaves out.
 OP_CODES = """request control; reset; speed u16; inclination s16; resistance u8; power s16; heart rate u8; start or resume;
 stop (1) or pause (2) u8; energy u16; steps u16; strides u16; distance u24; time u16; two zones, a u16 each; three zones, a u16 each;
 five zones, a u16 each; wind s16, grade s16, rolling u8, drag u8; wheel u16; spin down; cadence u16"""
@@ -54,11 +54,11 @@ ORDERS = [
     ("splitting", [11, 12, 13, 15, 14]),
     # "30 to 32 are judged on it just before 13"
     ("splitting called from C", [11, 12, 30, 31, 32, 13, 15, 14]),
-    # "a notification 30 to 34 upward", less 33 and 34, which are of a told set; its kind first, as everywhere
+    # "a notification 30 to 34 upward", without 33 and 34, which need a told set; its kind first, as everywhere
     ("reading a notification", [11, 30, 31, 32]),
     ("reading a Feature value", [22]),
     ("opening a collection", [11, 35]),
-    # "a notification 30 to 34 upward"; before that, as everywhere, the kind: a collection whose opening was refused may have one that is none
+    # "a notification 30 to 34 upward"; before that, as everywhere, the kind: a collection whose opening was refused may have an unknown one
     ("collecting a notification", [11, 30, 31, 32, 33, 34]),
     ("opening a machine", [22, 16]),
     # "connect, disconnect and indications 10, 17"
@@ -136,7 +136,7 @@ def status(op, octets):
 
 
 def op_code(op, name):
-    """The cells behind an op code's name. Of spin down's, document 01 says no more than that it "is answered 'not supported'": "result 02"."""
+    """The cells after an op code's name. Of spin down's, document 01 says only that it "is answered 'not supported'": "result 02"."""
     if op == 0x13:
         return "-", "-", "-", "not supported: 80 13 02", "-"
     widths = parameter(name)

@@ -1,11 +1,11 @@
-"""Twins: one wrong reading of document 01 in specs/ and in the code alike. tools/strength.py asks which theorem and which run notices each.
+"""Twins: the same wrong reading of document 01 in specs/ and in the code. tools/strength.py asks which theorem and which run notices each.
 
-A twin is carried into the proofs of the functions where those name the case, so that the prover takes every function: each meets its contract, which
-is wrong. What the prover then refuses is a theorem: a number of document 01 by computation, or a law in other words.
+A twin also edits the proofs of the functions where they name the case, so that the prover accepts every function: each meets its contract, which is
+wrong. What the prover then refuses is a theorem: a number of document 01 by computation, or a law that states the rule in other words.
 
-The twins stand in tools/twins/. A head: the part of document 01, and what is wrong. Below it document 01's words; then each file with its edits: the
-old text, which stands there once, ⇒, the new. A text of more than one line has - in front of each old line and + in front of each new one; + alone
-makes a file. `every` in front of a text says that it is changed wherever it stands.
+The twins are in tools/twins/. A head gives the part of document 01 and what is wrong. Below it are document 01's words, then each file with its
+edits: the old text, which occurs there once, ⇒, the new. A text of more than one line has - before each old line and + before each new one; + lines
+alone make a new file. `every` before a text means that it is changed wherever it occurs.
 """
 import os
 import re
@@ -29,7 +29,7 @@ class Twin:
             text = found[file] if file in found else read(file) if old else new + "\n"
             count = text.count(old) if old else 1
             if count == 0 or count > 1 and not everywhere:
-                sys.exit(f"strength: {self.words}: `{old}` stands {count} times in {file}")
+                sys.exit(f"strength: {self.words}: `{old}` occurs {count} times in {file}")
             found[file] = text.replace(old, new) if old else text
         return found
 
@@ -73,7 +73,7 @@ def joined(text):
 
 
 class Verdict:
-    """What the prover said of a twin: which functions it did not take, and which definitions are false, but for those that only rest on one."""
+    """The prover's answer to a twin: which functions it did not accept, and which definitions failed, except those that only depend on one."""
 
     def __init__(self, copy):
         self.verdict, self.where, said = copy.check_all()
@@ -95,14 +95,14 @@ class Verdict:
 
 
 def by_computation(file, name):
-    """Whether a definition's whole proof is that both sides compute to the same."""
+    """Whether a definition's whole proof is that both sides compute to the same value."""
     text = open(file).read()
     computed = r" = (record \{ )?[(]?((\w+ = )?refl[,;)]* ?)+\}?|( \w+)* = every .* refl"
     return bool(re.search(rf"^ *{re.escape(name)}({computed})$", text, re.M))
 
 
 def modules(copy):
-    """The modules of all crates, each with those that it names: a crate's first folders and files count as modules."""
+    """The modules of all crates, each with those that it names: the files and folders directly in a crate's src/ count as modules."""
     graph = {}
     for crate in copy.below:
         top = copy.path(crate + "/src")
@@ -119,7 +119,7 @@ def modules(copy):
 
 
 def reaching(copy, files):
-    """The programs that use, at first or second hand, a module of which a source file was edited."""
+    """The programs that use, directly or indirectly, a module of which a source file was edited."""
     graph = modules(copy)
     edited = {(file.split("/")[0], file.split("/")[2].removesuffix(".rt")) for file in files if "/src/" in file}
     for program in copy.programs:
@@ -135,7 +135,7 @@ def reaching(copy, files):
 
 
 def noticing(copy, files):
-    """The first program that reaches an edited file and writes something else than its `stdout`, one over the fewest crates first; or none."""
+    """The first program, those with the fewest dependencies first, that reaches an edited file and does not print its `stdout`; or none."""
     for name in sorted(reaching(copy, files), key=lambda name: len(copy.below[name])):
         said, status = copy.run("try", name)
         if status == 1 and "did not write what is expected" in said:
@@ -152,7 +152,7 @@ def shown(theorems):
 
 
 def judge(copy, twin, run):
-    """The verdict on a twin, and the program that notices it: they are run where it is asked for, or where no computation notices."""
+    """The verdict on a twin, and the program that notices it: programs are run if that is asked for, or if no computation notices the twin."""
     texts = twin.texts(lambda file: open(copy.path(file)).read())
     with copy.edited(texts):
         verdict = Verdict(copy)

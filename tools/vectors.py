@@ -131,7 +131,7 @@ def hexed(octets):
 
 
 def sample(choice, kind, groups):
-    """The values of the present fields: a table by width, or by name."""
+    """The values of the present fields, by width or by name."""
     return {name: choice[name] if name in choice else choice[width] for name, width in fields_of(kind, [0] + bits_of(groups))}
 
 
@@ -157,7 +157,7 @@ def run_kinds(choice):
 
 
 def run_table():
-    """The rows of "Numbers to hold against the code", each held to its lengths and flags."""
+    """The rows of "Numbers to hold against the code", each compared with its lengths and flags."""
     for kind, direction, payload, lengths, flags in [
         (1, 0, 20, [17, 19], "7F 00; 80 1F"),
         (2, 1, 20, [18, 20, 9], "3F 80 00; C1 9F 00; 00 E0 00"),
@@ -176,7 +176,7 @@ def run_table():
 
 
 def read_case(words, kind, octets):
-    """A notification, where every number held is 7 before it."""
+    """A notification, read when every number held is 7."""
     answer = read(kind, octets)
     if isinstance(answer, int):
         said = f"refused={answer} held=unchanged"
@@ -205,7 +205,7 @@ def read_cases():
 
 
 def split_case(words, kind, groups, direction, payload=20, part=0, room=64, **changed):
-    """A part of the record in which each present field has its own number, but for those changed."""
+    """A part of the record in which each present field has its own number, except for those changed."""
     listed = groups & all_groups(kind) if kind in KINDS else 0
     values = {**(sample(OWN, kind, listed) if kind in KINDS else {}), **changed}
     answer = split(kind, groups, direction, values, payload, part, room)
@@ -325,7 +325,7 @@ def answered(kind, answer, dropped):
 
 
 def collection_case(words, kind, told, notifications=(), worked=""):
-    """A collection and its notifications, each held to the answer that was worked out by hand."""
+    """A collection and its notifications, each answer compared with the one worked out by hand."""
     refusal = opening(kind, told)
     said = f"refused={refusal}" if refusal else "opened"
     print(f"{words}: kind={kind} {'open' if told is None else f'told={told}'} {said}")

@@ -1,4 +1,4 @@
-// The control point once more, written from document 01 alone.
+// A second implementation of the control point, written from document 01 alone.
 use super::Width::{self, *};
 use std::collections::BTreeMap;
 
@@ -66,7 +66,7 @@ fn needed_bit(op: u8) -> Option<u8> {
     }
 }
 
-// What stands at first, and where an opening was refused with no target setting and every range at 0.
+// A console at first; if its opening was refused, with no target setting and every range at 0.
 fn first(features: u32, targets: u32, ranges: Ranges) -> Console {
     let stores = (0..=0x14).filter(|op| needed_bit(*op).is_some());
     Console {
@@ -184,7 +184,7 @@ impl Console {
         }
     }
 
-    // Does what success does, and gives the status octets.
+    // Does what a success does, and returns the status octets.
     fn succeed(&mut self, client: u8, op: u8, p: &[u8]) -> Vec<u8> {
         match op {
             0x00 => self.holder = Some(client),

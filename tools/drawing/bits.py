@@ -23,7 +23,7 @@ def bits_of_row(words):
 
 
 def short_name(words):
-    """The name in what a bit says: that of a group which is present where the bit is 1, or the words before the colon."""
+    """The name in a bit's description: that of the group that is present when the bit is 1, or the words before the colon."""
     found = re.fullmatch(r"1: (.+) present", words) or re.match(r"([^:]+):", words)
     if not found:
         raise ValueError("`%s` does not begin with a name" % words)
@@ -41,7 +41,7 @@ def add_name(names, bits, name):
 
 
 def runs_of(names):
-    """Neighbours of one octet that are reserved together, each other bit alone: lists of bits, from bit 7 down."""
+    """Lists of bits, from bit 7 down: neighbouring reserved bits of one octet together, every other bit alone."""
     runs = []
     for bit in reversed(range(len(names))):
         if runs and names[bit] == RESERVED and names[runs[-1][-1]] == RESERVED:
@@ -52,7 +52,7 @@ def runs_of(names):
 
 
 def room_of(name):
-    """How much room a name needs at least: that of its widest piece, or more where it would have too many lines."""
+    """How much room a name needs at least: that of its widest piece, or more if it would have too many lines."""
     wide = max(text_width(piece, bold=name == MORE) for piece in re.split(r"(?<=_)| ", name))
     while len(lines_of(name, wide, name == MORE)) > MOST_LINES:
         wide += 1
@@ -60,7 +60,7 @@ def room_of(name):
 
 
 def edges_of(names):
-    """Where the eight columns begin, and the last ends: as wide as each other, but for a name that needs more."""
+    """Where the eight columns begin, and the last ends: equally wide, except for a name that needs more."""
     needed = [max(room_of(name) for name in names[bit::8]) for bit in reversed(range(8))]
     wide = [need for need in needed if need > UNIT]
     shared = (8 * UNIT - sum(wide)) / (8 - len(wide))
@@ -76,7 +76,7 @@ class Strip:
         self.edges = edges
         self.y = y
         lines = [MOST_LINES if name == MORE else len(lines_of(name, self.room([bit]))) for bit, name in enumerate(names)]
-        # Low where all of it is reserved, else high enough for its longest name.
+        # Low if all of it is reserved, otherwise high enough for its longest name.
         self.high = NUMBERS + (LINE + 4 if set(names) == {RESERVED} else LINE * max([2] + lines) + 5)
 
     def sides(self, run):
@@ -104,7 +104,7 @@ def draw_run(picture, strip, run, first):
 
 
 def draw_run_name(picture, strip, run):
-    """The name, in the longer part where the line between the two digits divides a run."""
+    """The name of a run; in its longer part, if the line between the two digits divides it."""
     name = strip.names[run[0]]
     parts = [[bit for bit in run if bit >= 4], [bit for bit in run if bit < 4]]
     longer = max(parts, key=len)
@@ -137,7 +137,7 @@ def octets_picture(title, names, first_octet, shown):
 
 
 def flags_picture(title, rows, flags_octets):
-    """Every bit of the flags; each has its row. The title is not shown: a heading stands above it."""
+    """Every bit of the flags; each has its row. The title is not shown: there is a heading above it."""
     names = [None] * (8 * flags_octets)
     for row in rows:
         add_name(names, bits_of_row(cell(row, "bit")), short_name(cell(row, "what it says")))
@@ -149,7 +149,7 @@ def flags_picture(title, rows, flags_octets):
 
 
 def feature_picture(title, rows, first_octet):
-    """A u32 of the Feature value, whose first octet has a number; bits without a row are reserved."""
+    """A u32 of the Feature value, which begins at octet `first_octet`; bits without a row are reserved."""
     if first_octet not in (0, 4):
         raise ValueError("a number of the Feature value begins at octet 0 or 4, not at %s" % first_octet)
     names = [None] * 32

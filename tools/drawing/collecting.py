@@ -1,4 +1,4 @@
-"""What a collection answers to each part that is sent, where some are lost on the way."""
+"""What a collection answers to each part that is sent, when some are lost on the way."""
 import re
 from typing import List, NamedTuple
 
@@ -57,7 +57,7 @@ def records_of(sent):
 
 
 def bracket_words(one, wide):
-    """`record 1 in 3 parts`, or `record 1` where that has no room."""
+    """`record 1 in 3 parts`, or `record 1` if that does not fit."""
     whole = "%s in %s part%s" % (one.record, one.parts, "" if one.parts == "1" else "s")
     return whole if text_width(whole, bold=True) <= wide else one.record
 
@@ -84,7 +84,7 @@ def draw_way(picture, x, y, lost):
 
 
 def draw_answer(picture, x, y, unit, answer):
-    """An answer below the collection, a record's outlined; how high it is."""
+    """Draws an answer below the collection, a record's outlined; returns how high it is."""
     if answer == "lost":
         return 0
     picture.line(x, y, x, y + 9, thick=1.5)
@@ -102,7 +102,7 @@ def lost_picture(title, lines):
     """A column for each part that is sent: the part, its way to the collection, and the answer."""
     sent = [sent_of(line) for line in lines]
     if not sent or INNER / len(sent) < NARROWEST:
-        raise ValueError("%d parts do not stand beside each other in one picture" % len(sent))
+        raise ValueError("%d parts do not fit side by side in one picture" % len(sent))
     picture, unit, feet = Picture(title), INNER / len(sent), []
     draw_brackets(picture, picture.top, sent, unit)
     top = picture.top + 26

@@ -1,4 +1,4 @@
-"""How the splitting rule cuts a record: at each step what was tried, held against the payload's end, and the part that is sent."""
+"""How the splitting rule cuts a record: at each step what was tried, with the payload's end, and the part that is sent."""
 from .names import draw_centred, draw_strokes
 from .rows import cell, groups_of, named_groups, parts_of, whole_number
 from .splitting import last_alone_is_last
@@ -22,7 +22,7 @@ def tried_of(row, part, groups, flags_octets):
 
 
 def what_to_send(tried, payload, flags_octets):
-    """The splitting rule: all that was tried where it fits, else the longest run of the lowest remaining groups that does."""
+    """The splitting rule: all that was tried if it fits, otherwise the longest run of the lowest remaining groups that does."""
     if flags_octets + sum(group.octets for group in tried) <= payload:
         return tried
     run, used = [], flags_octets
@@ -35,7 +35,7 @@ def what_to_send(tried, payload, flags_octets):
 
 
 def steps_of(rows, parts, groups, payload, flags_octets):
-    """The groups tried at each step, held to the rule: its part, and what remains for the step after it."""
+    """The groups tried at each step, checked against the rule: its part, and what remains for the step after it."""
     if len(rows) != len(parts):
         raise ValueError("there are %d steps and %d parts" % (len(rows), len(parts)))
     steps, remaining = [], groups[1:]
@@ -63,14 +63,14 @@ class Scale:
         return self.flags_octets + sum(group.octets for group in groups)
 
     def middle(self, left, right):
-        """Where a box's text stands: in the longer half of a box that the payload's end divides."""
+        """Where a box's text goes: into the longer half, if the payload's end divides the box."""
         if left < self.end < right:
             return (left + self.end) / 2 if self.end - left >= right - self.end else (self.end + right) / 2
         return (left + right) / 2
 
 
 def draw_box(picture, scale, x, y, octets, words, fill):
-    """A box of so many octets with its words, grey about white where it was only tried; where the next one begins."""
+    """Draws a box of `octets` octets with its words, white in a grey outline if it was only tried; returns where it ends."""
     right = x + octets * scale.unit
     picture.box(x, y, right - x, HIGH, fill, GREY if fill == WHITE else "#000000")
     draw_strokes(picture, x, y + HIGH, scale.unit, octets)
@@ -79,7 +79,7 @@ def draw_box(picture, scale, x, y, octets, words, fill):
 
 
 def draw_flags(picture, scale, y, flags):
-    """The box of the flags, with their octets where there are any; where the groups begin."""
+    """Draws the box of the flags, with their octets if there are any; returns where the groups begin."""
     right = draw_box(picture, scale, MARGIN, y, scale.flags_octets, None if flags else "flags", FLAGS if flags else WHITE)
     for i, octet in enumerate(flags or []):
         picture.text(MARGIN + (i + 0.5) * scale.unit, y + HIGH / 2 + 3, octet, mono=True, room=scale.unit)
@@ -87,7 +87,7 @@ def draw_flags(picture, scale, y, flags):
 
 
 def draw_boxes(picture, scale, y, groups, flags=None):
-    """A strip of boxes that bear their bits: white where they were only tried, tinted behind the flags' octets where they are sent."""
+    """A strip of boxes labelled with their bits: white if they were only tried; tinted, after the flags' octets, if they are sent."""
     x = draw_flags(picture, scale, y, flags)
     for group in groups:
         bit = str(group.bit) if group.bit else group.name
@@ -95,7 +95,7 @@ def draw_boxes(picture, scale, y, groups, flags=None):
 
 
 def draw_step(picture, scale, y, tried, part):
-    """A step's strips, each under its heading: what was tried where it does not fit, and what is sent; where the next step begins."""
+    """Draws a step's strips, with headings: what was tried, if it does not fit, and what is sent; returns where the next begins."""
     octets = scale.octets(tried)
     sent = "%d octets: sent as part %d" % (part.octets, part.number)
     if octets <= scale.payload:

@@ -57,8 +57,8 @@ def first_picture(title, rows, octets, flags_octets):
     return picture.svg(y + OCTET + BOX + 60)
 
 
-# The boxes of the way: where each stands, how wide and how high it is, and its words; and the arrows between them, each with its word and how far it is
-# aside from the middle.
+# The boxes of that way: where each is, how wide and how high it is, and its words; and the arrows between them, each with its word and how far it is off
+# the middle.
 SIDES = [("console", 10, 288), ("app", 382, 288)]
 BOXES = {
     "sent": (22, 34, 84, 36, ["record"]), "parts": (204, 34, 84, 36, ["parts"]), "heard": (394, 34, 92, 36, ["notifications"]),

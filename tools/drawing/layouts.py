@@ -28,7 +28,7 @@ def width_of_row(row):
 
 
 def label_of(group, wide):
-    """What stands above a group: its bit, and its name where that says more than its field's; just the bit where that has no room."""
+    """The label above a group: its bit, and its name if that says more than its field's; only the bit if that does not fit."""
     if group.bit == 0:
         return "%s: bit 0=0" % group.name
     bit = "bit %d" % group.bit
@@ -39,7 +39,7 @@ def label_of(group, wide):
 
 
 def draw_field(picture, field, x, y, unit, high):
-    """A field's box with its octet's number, its width and its name; the name itself is handed back where it does not fit."""
+    """Draws a field's box with its octet's number, its width and its name; returns the name if it does not fit."""
     wide = field.octets * unit
     picture.box(x, y, wide, high, stroke=GREY)
     draw_strokes(picture, x, y + high, unit, field.octets)
@@ -51,7 +51,7 @@ def draw_field(picture, field, x, y, unit, high):
 
 
 def draw_group(picture, group, x, y, unit, high):
-    """A group, outlined, under its label; hands back the names that did not fit."""
+    """Draws a group, outlined, under its label; returns the names that did not fit."""
     wide, start, hanging = group.octets * unit, group.fields[0].at, []
     picture.area(x, y, wide, high, TINTS[group.bit % 2])
     for field in group.fields:
@@ -77,7 +77,7 @@ def row_height(row, unit):
 
 
 def draw_row(picture, row, x, y, unit):
-    """A row of groups from a place on; hands back where it ends, with the names below it."""
+    """Draws a row of groups from a place on; returns where it ends, with the names below it."""
     high, hanging = row_height(row, unit), []
     for group in row:
         hanging += draw_group(picture, group, x, y, unit, high)
@@ -86,7 +86,7 @@ def draw_row(picture, row, x, y, unit):
 
 
 def whole_picture(title, rows, flags_octets):
-    """The notification with all groups present, in rows of whole groups. The title is not shown: a heading stands above it."""
+    """The notification with all groups present, in rows of whole groups. The title is not shown: there is a heading above it."""
     picture = Picture(title, shown=False)
     groups = groups_of(rows, flags_octets)
     lines = rows_of_groups(groups, flags_octets)

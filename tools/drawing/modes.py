@@ -45,7 +45,7 @@ def draw_across(picture, x1, x2, y, writes):
 
 
 def draw_round(picture, x1, x2, y, down, writes):
-    """An arrow between the first and the last state: below the boxes where `down` is 1, above them where it is -1."""
+    """An arrow between the first and the last state: below the boxes if `down` is 1, above them if it is -1."""
     if not writes:
         return
     along = 10 if x2 > x1 else -10

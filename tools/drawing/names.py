@@ -1,21 +1,21 @@
-"""Names in boxes, and below them where they do not fit: moved aside until none meets its neighbour, each with a line that leads to its box."""
+"""Names in boxes, or below them if they do not fit: moved sideways until no two overlap, each with a line that leads to its box."""
 import re
 
 from .svg import GREY, LINE, MARGIN, WIDE, fitting_lines, text_width
 
 GAP = 9
-# How far below its box a name stands; farther where some leader goes aside.
+# How far below its box a name is; farther if the line to some box is slanted.
 LEADERS = (7, 11)
 
 
 def name_lines(words, wide, most):
-    """A name's lines in a box, or None where it does not fit in so many."""
+    """A name's lines in a box, or None if it does not fit in `most` lines."""
     lines = fitting_lines(words, wide - 5)
     return lines if lines and len(lines) <= most else None
 
 
 def draw_centred(picture, x, top, high, lines, **style):
-    """Lines of text about the middle of a room."""
+    """Lines of text, centred in a room."""
     first = top + (high - len(lines) * LINE) / 2 + 10
     picture.block(x, first, lines, **style)
 
@@ -43,7 +43,7 @@ def pooled(wanted):
 
 
 def spread(centres, widths):
-    """The middles of texts that want to stand at their centres, moved until they are a gap apart and in the picture; None where they have no room."""
+    """The middles of texts, as near to the given centres as they can be a gap apart and in the picture; None if they do not fit."""
     offsets = [sum(widths[:i]) + widths[i] / 2 + i * GAP for i in range(len(widths))]
     least, most = MARGIN - offsets[0] + widths[0] / 2, WIDE - MARGIN - offsets[-1] - widths[-1] / 2
     if least > most:
@@ -68,20 +68,20 @@ def broken(name, level):
 
 
 def placed(hanging, level):
-    """The lines of each hanging name and the middle where they stand, or None where they have no room."""
+    """The lines of each hanging name and their middle, or None if they do not fit."""
     blocks = [broken(name, level) for _, name in hanging]
     places = spread([centre for centre, _ in hanging], [block_width(lines) for lines in blocks])
     return places and list(zip(blocks, places))
 
 
 def farthest(hanging, blocks):
-    """How far aside a leader goes at most; so little counts as nothing that it leads down and not along."""
+    """How far sideways a leader goes at most; a distance so small that it still leads downwards counts as 0."""
     aside = [abs(lead_in(centre, place, block_width(lines)) - centre) for (centre, _), (lines, place) in zip(hanging, blocks)]
     return max([0] + [distance for distance in aside if distance > 14])
 
 
 def draw_hanging(picture, foot, hanging):
-    """Names below their boxes, broken only where that keeps them nearer; how high they are. `hanging`: the middle of each box, and its name."""
+    """Draws names below their boxes, broken only if that keeps them nearer; returns their height. `hanging`: the middle of each box, and its name."""
     choices = [blocks for blocks in (placed(hanging, level) for level in range(3)) if blocks] if hanging else [[]]
     if not choices:
         raise ValueError("the names %s have no room below their boxes" % ", ".join(name for _, name in hanging))

@@ -1,4 +1,4 @@
-"""What the rows of the reference's tables say, read once for all pictures; rows that contradict themselves are refused in a plain sentence."""
+"""The rows of the reference's tables, read once for all pictures; rows that contradict themselves are rejected with a plain sentence."""
 import re
 from typing import List, NamedTuple
 
@@ -106,7 +106,7 @@ def flags_of(words, flags_octets):
 
 
 def flags_agree(part, groups):
-    """The flags name the part's groups and no others, and More Data is 0 exactly where the main group is present."""
+    """The flags name the part's groups and no others, and More Data is 0 exactly when the main group is present."""
     value = sum(int(octet, 16) << 8 * i for i, octet in enumerate(part.flags))
     for group in groups:
         named = (value >> group.bit & 1) == (0 if group.bit == 0 else 1)
@@ -115,7 +115,7 @@ def flags_agree(part, groups):
 
 
 def parts_of(rows, groups, payload, flags_octets):
-    """The parts of a table of parts, held to the fields and to the payload."""
+    """The parts of a table of parts, checked against the fields and the payload."""
     parts = []
     for row in rows:
         part = Part(

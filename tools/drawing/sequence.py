@@ -67,7 +67,7 @@ def draw_words(picture, left, y, words, octets):
 
 
 def draw_arrow(picture, x1, x2, y, words, octets="", dashed=False):
-    """An arrow along a row whose middle is given, its words in the middle of it, the octets behind them in monospace."""
+    """An arrow along a row whose middle is given, its words in the middle of it, the octets after them in monospace."""
     along = 1 if x2 > x1 else -1
     wide = text_width(words) + (5 + text_width(octets, mono=True) if octets else 0)
     if wide > abs(x2 - x1) - 40:

@@ -7,7 +7,7 @@ HEADING = 14
 
 
 def bit_words(group, wide):
-    """`bit 3`, or `3` where that has no room, or `main`."""
+    """`bit 3`, or `3` if that does not fit, or `main`."""
     if group.bit == 0:
         return group.name
     whole = "bit %d" % group.bit
@@ -28,7 +28,7 @@ def draw_octets(picture, group, x, foot, unit):
 
 
 def draw_group(picture, group, x, y, unit, high, names):
-    """A group's box with its bit, and its name where it fits; else the name is handed back, with the middle of its box."""
+    """Draws a group's box with its bit, and its name if it fits; otherwise returns the name, with the middle of its box."""
     wide = group.octets * unit
     picture.box(x, y, wide, high, TINTS[group.bit % 2], thick=1.5)
     draw_octets(picture, group, x, y + high, unit)
@@ -42,7 +42,7 @@ def draw_group(picture, group, x, y, unit, high, names):
 
 
 def draw_flags(picture, flags, x, y, unit, high):
-    """The flags' box, each octet written in; `flags` above them where there is room."""
+    """The flags' box, each octet written in; `flags` above them if there is room."""
     picture.box(x, y, len(flags) * unit, high, FLAGS, thick=1.5)
     draw_strokes(picture, x, y + high, unit, len(flags))
     low = y + high / 2 + 2
@@ -54,7 +54,7 @@ def draw_flags(picture, flags, x, y, unit, high):
 
 
 def draw_strip(picture, flags, groups, y, unit, high, names):
-    """The flags and groups of a notification from the left margin on; hands back the names that did not fit."""
+    """Draws the flags and groups of a notification from the left margin on; returns the names that did not fit."""
     draw_flags(picture, flags, MARGIN, y, unit, high)
     x, hanging = MARGIN + len(flags) * unit, []
     for group in groups:
@@ -70,7 +70,7 @@ def last_alone_is_last(parts):
 
 
 def parts_picture(title, parts, fields, payload, flags_octets, names=True, shown=False, aside=""):
-    """The parts of a record, each a strip of the payload's octets; without `names` the groups bear their bits alone. `aside` ends each heading."""
+    """The parts of a record, each a strip of the payload's octets; without `names` the groups show only their bits. `aside` ends each heading."""
     picture = Picture(title, shown)
     read = parts_of(parts, groups_of(fields, flags_octets), payload, flags_octets)
     last_alone_is_last(read)

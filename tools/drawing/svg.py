@@ -1,4 +1,4 @@
-"""The common parts of all pictures: how wide a text is, how it breaks into lines, and a picture as it is drawn, which holds its texts apart."""
+"""The common parts of all pictures: how wide a text is, how it breaks into lines, and a picture as it is drawn, whose texts may not overlap."""
 import re
 
 # 680 pixels are 180 mm on paper, and 11 pixels are 8.25 points: no text is smaller.
@@ -8,7 +8,7 @@ LINE = 13
 MARGIN = 10
 INNER = WIDE - 2 * MARGIN
 
-# Two tints that tell neighbours apart, and the grey of the flags; an outline always says the same.
+# Two tints that tell neighbours apart, and the grey of the flags; an outline always shows the same without colour.
 TINTS = ["#dfeefb", "#fff3d6"]
 FLAGS = "#e4e4e4"
 GREY = "#666666"
@@ -26,7 +26,7 @@ WIDTHS = [
 ]
 WIDTH_OF = {character: width for width, characters in WIDTHS for character in characters}
 
-# A bold text is so much wider, and a character of a monospace font so wide.
+# How much wider a bold text is, and how wide a character of a monospace font is.
 BOLD = 1.15
 MONO = 0.61
 
@@ -39,7 +39,7 @@ def text_width(words, size=SMALL, bold=False, mono=False):
 
 
 def fitting_lines(words, wide, bold=False):
-    """The words in lines that break at spaces and behind underscores, or None where a piece is wider than the room."""
+    """The words in lines that break at spaces and after underscores, or None if a piece is wider than the room."""
     lines = [""]
     for piece in re.findall(r" |[^ _]+_?|_", words):
         if text_width(piece, bold=bold) > wide:
@@ -73,7 +73,7 @@ def meet(one, other):
 
 
 class Picture:
-    """A picture as it is drawn, its title at the top where it is shown; `top` is where the rest begins."""
+    """A picture as it is drawn, its title at the top if it is shown; `top` is where the rest begins."""
 
     def __init__(self, title, shown=True):
         self.title = title
@@ -124,7 +124,7 @@ class Picture:
         self.path("".join(strokes), stroke="#aaaaaa", thick=0.7)
 
     def text(self, x, y, words, anchor="middle", size=SMALL, bold=False, mono=False, plate=False, fill="#000000", room=WIDE):
-        """A text on a base line that must fit in a room; `plate` clears the ground under it."""
+        """A text on a base line that must fit in a room; `plate` clears the background under it."""
         wide = text_width(words, size, bold, mono)
         if wide > room:
             raise ValueError("`%s` has no room in its box in the picture `%s`" % (words, self.title))
@@ -142,7 +142,7 @@ class Picture:
             self.text(x, y + i * LINE, line, **style)
 
     def check(self, high):
-        """No text leaves the picture or meets another."""
+        """No text leaves the picture or overlaps another."""
         ground = [(a, b) for i, a in enumerate(self.texts) for b in self.texts[:i] if meet(a, b)]
         if ground:
             raise ValueError("`%s` and `%s` meet in the picture `%s`" % (ground[0][1][4], ground[0][0][4], self.title))
@@ -151,7 +151,7 @@ class Picture:
                 raise ValueError("`%s` leaves the picture `%s`" % (words, self.title))
 
     def svg(self, high):
-        """The whole picture, of a height."""
+        """The whole picture, with its height."""
         self.check(high)
         size = 'width="%d" height="%s" viewBox="0 0 %d %s"' % (WIDE, number(high), WIDE, number(high))
         start = [

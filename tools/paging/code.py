@@ -1,4 +1,4 @@
-"""Pieces of code, cut out of the files that the gate proves or builds."""
+"""Pieces of code, cut out of the files that the tests prove or build."""
 import os
 import re
 
@@ -25,7 +25,7 @@ def first_comment(lines, at):
 
 
 def piece(path, name):
-    """A function or a constant with the comment before it: up to the line that closes it, as far in as its first."""
+    """A function or a constant with the comment before it: up to the line that closes it, which has the same indentation."""
     lines = read(path).splitlines()
     starts = [i for i, line in enumerate(lines) if begins(line, name)]
     if len(starts) != 1:
@@ -41,7 +41,7 @@ def piece(path, name):
 
 
 def between(path, first, last):
-    """The lines from the first that begins with some words to the next that begins with others; that one alone, where there are no others."""
+    """The lines from the first that begins with `first` to the next that begins with `last`; only the first line if `last` is empty."""
     lines = read(path).splitlines()
     starts = [i for i, line in enumerate(lines) if line.startswith(first)]
     if not starts:

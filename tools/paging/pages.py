@@ -1,4 +1,4 @@
-"""The pages: their words stand in docs/source/, and each line `{{..}}` there is replaced by what it names."""
+"""The pages: their words are in docs/source/, and each line `{{..}}` there is replaced by what it names."""
 import os
 import re
 
@@ -24,7 +24,7 @@ def known():
 
 
 def standing(kind, words, names):
-    """Under a table, which of the three it is. Each name in it must be a file, or stand in the crates."""
+    """The line under a table: proved, run or compared. Each name in it must be a file, or occur in the crates."""
     for name in NAME.findall(words):
         if not os.path.exists(name) and not set(re.findall(r"[\w-]+", name)) <= names:
             raise Fault(f"no file and no name of the crates: {name}")
@@ -83,7 +83,7 @@ class Maker:
         return f"*Edition {self.edition} · [departures](departures.md) · [statements](../PROOFS.md) · [contents](README.md)*"
 
     def page(self, name):
-        """A page's text. Under its title stands its edition; under each table stands which of the three it is."""
+        """A page's text: under its title its edition, and under each table whether it is proved, run or compared."""
         lines = self.lines(name, f"{SOURCE}/{name}.md")
         if not lines or not lines[0].startswith("# "):
             raise Fault(f"{SOURCE}/{name}.md does not begin with a title")
@@ -104,12 +104,12 @@ def damaged():
 
 
 def held(name, lines):
-    """Fails where a table has no line behind it that says which of the three it is."""
+    """Fails if a table has no line after it that says whether it is proved, run or compared."""
     for i, line in enumerate(lines):
         ends = line.startswith("|") and not (i + 1 < len(lines) and lines[i + 1].startswith("|"))
         behind = [after for after in lines[i + 1:i + 3] if after]
         if ends and not (behind and STANDING.match(behind[0])):
-            raise Fault(f"{name}: no line says which of the three the table is that ends with {line}")
+            raise Fault(f"{name}: no line says whether the table that ends with {line} is proved, run or compared")
 
 
 def names():

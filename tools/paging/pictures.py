@@ -13,7 +13,7 @@ def article(kind):
 
 
 class Pictures:
-    """Draws by the words of a directive; what was drawn stands in `made`, by file name."""
+    """Draws by the words of a directive; what was drawn is in `made`, by file name."""
 
     def __init__(self, tables):
         self.tables = tables
@@ -25,7 +25,7 @@ class Pictures:
         return rows(self.tables[name])
 
     def part_rows(self, name):
-        """The rows of a table of parts; a cross trainer's are those of forward."""
+        """The rows of a table of parts; a cross trainer's are those for forward."""
         return [{("flags" if column == "flags, forward" else column): cell for column, cell in row.items()} for row in self.rows(name)]
 
     def flags(self, kind):
@@ -91,7 +91,7 @@ class Pictures:
         return "-".join([what, *arguments])
 
     def draw(self, words):
-        """Draws what a directive asks for; the lines that show it on a page."""
+        """Draws what a directive asks for; returns the lines that show it on a page."""
         what, *arguments = words
         try:
             title, made = getattr(self, what.replace("-", "_"))(*arguments)

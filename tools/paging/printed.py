@@ -44,7 +44,7 @@ def rows(table):
 
 
 def section(path, name):
-    """The lines behind `== name` in what a program prints, up to the next such line; all of it where no name is given."""
+    """The lines after `== name` in what a program prints, up to the next such line; all of it if no name is given."""
     text = read(path)
     if not name:
         return text

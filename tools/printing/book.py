@@ -22,7 +22,7 @@ WORK = ROOT / "target" / "book.work"
 
 
 def make():
-    """Makes all anew beside the old, which it then replaces."""
+    """Makes everything anew beside the old, which it then replaces."""
     new = MADE.with_name("book.new")
     for folder in (new, WORK):
         shutil.rmtree(folder, ignore_errors=True)
@@ -36,7 +36,7 @@ def make():
 
 
 def say_room():
-    """Says how much of each page is left at its foot, for whoever writes the text."""
+    """Prints how much of each page is left at its foot, for whoever writes the text."""
     end = sheet.TOP + sheet.TEXT_HEIGHT
     rooms = [f"{end - page.lowest(sheet.TOP, end):.0f}" for page in pdf.read(MADE / "book.pdf", WORK)]
     print(f"target/book/index.html, target/book/book.pdf: {len(rooms)} pages; millimetres left at the foot of each: {' '.join(rooms)}")
@@ -52,7 +52,7 @@ def is_old():
 
 
 def sources():
-    """The files that the book is made of; one that is copied stands below files/ with .html behind its name. A folder is newer where a file of it is gone."""
+    """The files that the book is made of; a copied one is below files/ with .html after its name. A folder is newer if a file was removed from it."""
     yield from (ROOT / "VERSION", ROOT / "tools" / "book", *Path(__file__).parent.glob("*.*"))
     yield from (pages.reference(ROOT), *pages.reference(ROOT).iterdir())
     for copy in (MADE / "files").rglob("*.html"):
@@ -61,7 +61,7 @@ def sources():
 
 
 def check():
-    """Says on standard error what is wrong; the number of lines."""
+    """Prints on standard error what is wrong; returns the number of lines."""
     wrong = check_screen.check(MADE, WORK) + check_paper.check(ROOT, MADE, WORK)
     for line in wrong:
         print(line, file=sys.stderr)

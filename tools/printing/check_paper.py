@@ -10,7 +10,7 @@ import sheet
 # How far, in millimetres, the edge of a letter may be from where it is set.
 NEAR = 0.5
 
-# A blank strip lower than this is a line's or a paragraph's, in millimetres.
+# A blank strip lower than this, in millimetres, is only the space of a line or a paragraph.
 STRIP = 10
 
 # How high a title is, in millimetres.
@@ -80,7 +80,7 @@ def lone_heading(page, places):
 
 
 def half_empty(page, count):
-    """A page, but for the last, of which more than half is blank."""
+    """A page, except the last, of which more than half is blank."""
     blank = page.blank(sheet.TOP, sheet.TOP + sheet.TEXT_HEIGHT, STRIP)
     if page.number == count or blank <= sheet.TEXT_HEIGHT / 2:
         return []
@@ -112,7 +112,7 @@ def kinds_facing(titles, places, sheets):
 
 
 def contents(entries, titles, places, sheets):
-    """Each page number of the table of contents is the number of the page on which that title stands."""
+    """Each page number of the table of contents is the number of the page that has that title."""
     number, top = places["contents"]
     lines = [re.sub(r"[ .]+", " ", text).strip() for text, line_top, _ in sheets[number - 1].lines() if line_top >= top - 1]
     wrong = []
@@ -127,7 +127,7 @@ def contents(entries, titles, places, sheets):
 
 
 def title_page(title, place, sheets):
-    """The page on which a title stands at its destination; 0 where it stands at none. What stands beside it is to its right."""
+    """The page that has a title at its destination; 0 if there is none. What is beside the title is to its right."""
     if place is None:
         return 0
     number, top = place

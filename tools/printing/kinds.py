@@ -1,6 +1,6 @@
-"""Lays out a kind's page for paper: what stands before "The code" on the left page, the code and its output on the right one.
+"""Lays out a kind's page for paper: what comes before "The code" on the left page, the code and its output on the right one.
 
-The tables of the flags and of the fields stand side by side. What room the pictures leave is shared out among the rows of the tables, and on the right page
+The tables of the flags and of the fields are side by side. The room that the pictures leave is divided among the rows of the tables, and on the right page
 among the lines of code, so that full pages are dense and the others are not half empty."""
 import pages
 import sheet
@@ -27,7 +27,7 @@ LEAST_CODE, GREATEST_CODE, LARGER_CODE, LARGER_COLUMNS = 11.2, 14.0, 12.6, 103
 
 
 def spread(page, folder, less):
-    """The two boxes of a kind's page, left and right; the folder has its pictures, and some CSS pixels of the pages' height are not counted on."""
+    """The two boxes of a kind's page, left and right; `folder` has its pictures, and `less` CSS pixels of the pages' height are not used."""
     top, sections = cut(page.tree)
     names = [text_of(section[0]).lower() for section in sections]
     turn = names.index(RIGHT_PAGE) if RIGHT_PAGE in names else len(sections)
@@ -41,7 +41,7 @@ def spread(page, folder, less):
 
 
 def cut(tree):
-    """What stands before the first second-level heading, and each such heading with what follows it."""
+    """What comes before the first second-level heading, and each such heading with what follows it."""
     top, sections = [], []
     for child in tree:
         if child.tag == "h2":
@@ -92,12 +92,12 @@ def above_table(section):
 
 
 def below_table(section):
-    """What a section has below its table, but for the note."""
+    """What a section has below its table, except the note."""
     return [child for child in section[first_table(section) + 1:] if not is_note([child])]
 
 
 def with_note_beside(section):
-    """A section whose note stands beside its heading and not below its table."""
+    """A section whose note is beside its heading and not below its table."""
     notes = [child for child in section if is_note([child])]
     rest = [child for child in section[1:] if child not in notes]
     return [element("div", None, [section[0]] + notes, class_="beside")] + rest
@@ -111,7 +111,7 @@ def side_by_side(narrow, wide):
 
 
 def fit_tables(left, folder, page_height):
-    """Gives the rows of the left page's tables the height that fills the page; where it is small, the pictures are made a little smaller first."""
+    """Gives the rows of the left page's tables the height that fills the page; if it is small, the pictures are made a little smaller first."""
     rows = table_rows(left)
     room = page_height - text_height(left)
     pictures = list(sized_pictures(left, folder))
@@ -131,7 +131,7 @@ def resize(pictures, scale):
 
 
 def spread_out(left, spare):
-    """Puts what room is left between the blocks of the left page."""
+    """Puts the room that is left between the blocks of the left page."""
     blocks = [child for child in left if child.get("class") in ("picture", "pair") or child.tag == "table"]
     gap = min(max(spare, 0) / max(len(blocks), 1), GREATEST_GAP)
     for block in blocks:
@@ -139,14 +139,14 @@ def spread_out(left, spare):
 
 
 def table_rows(left):
-    """How many rows of tables stand below each other on the left page."""
+    """How many rows of tables are below each other on the left page."""
     pair = next((box for box in left.iter("div") if box.get("class") == "pair"), [])
     columns = [sum(1 for _ in column.iter("tr")) for column in pair]
     return sum(1 for _ in left.iter("tr")) - sum(columns) + max(columns, default=0)
 
 
 def sized_pictures(tree, folder):
-    """Each picture with its width, its height and its smallest letter, in CSS pixels, as it is printed where it is at most as wide as the page."""
+    """Each picture with its width, its height and its smallest letter, in CSS pixels, as it is printed, which is at most as wide as the page."""
     for picture in tree.iter("img"):
         drawing = pages.drawing(folder / picture.get("src"))
         if drawing is not None:

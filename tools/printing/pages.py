@@ -90,7 +90,7 @@ def plain(text):
 
 
 def part_edition(tree):
-    """Makes the line of the edition, below a title, a paragraph of its own where text follows it without an empty line."""
+    """Makes the line of the edition, below a title, a paragraph of its own if text follows it without an empty line."""
     line = tree[1] if len(tree) > 1 and tree[0].tag == "h1" else None
     if line is None or line.tag != "p" or len(line) == 0 or line[0].tag != "em" or (line.text or "").strip() or not (line[0].tail or "").strip():
         return
@@ -101,7 +101,7 @@ def part_edition(tree):
 
 
 def element(tag, text=None, children=(), **attributes):
-    """A new element; an attribute's name may end in _ where it is a word of Python."""
+    """A new element; an attribute's name may end in _ if it is a word of Python."""
     made = ElementTree.Element(tag, {name.rstrip("_"): value for name, value in attributes.items()})
     made.text = text
     made.extend(children)
@@ -114,7 +114,7 @@ def written(tree):
 
 
 def inside(tree):
-    """What stands inside an element, as HTML."""
+    """What is inside an element, as HTML."""
     return "".join(written(child) for child in tree)
 
 
@@ -123,7 +123,7 @@ def template(name):
 
 
 def drawing(path):
-    """An SVG as a tree; none where it is missing or cannot be read, which the check says."""
+    """An SVG as a tree; None if it is missing or cannot be read, which the check reports."""
     try:
         return ElementTree.parse(path).getroot() if path.suffix == ".svg" else None
     except (ElementTree.ParseError, OSError):
@@ -139,7 +139,7 @@ def picture_size(tree):
 
 
 def least_letter(tree):
-    """The smallest size of letters that an SVG gives, in CSS pixels; 0 where it gives none that can be read here."""
+    """The smallest size of letters that an SVG gives, in CSS pixels; 0 if it gives none that can be read here."""
     sizes = [SIZE.fullmatch(part.get("font-size")) for part in tree.iter() if part.get("font-size")]
     return min((float(size.group(1)) for size in sizes if size), default=0.0)
 
@@ -151,7 +151,7 @@ def title_of_file(path):
 
 
 def copy_picture(source, target):
-    """Copies a picture; an SVG's letters are of the book's family where it names none."""
+    """Copies a picture; an SVG that names no font family gets the book's."""
     target.parent.mkdir(parents=True, exist_ok=True)
     if source.suffix == ".svg":
         drawing = source.read_text(encoding="utf-8")

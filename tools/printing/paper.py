@@ -15,21 +15,21 @@ from screen import OUTSIDE
 # Half a page in points: what is higher may break over two pages.
 HALF_PAGE = sheet.TEXT_HEIGHT * sheet.POINTS / 2
 
-# About what a line of code takes in points, and in a table a row beside its lines, a line, a letter and the space between two columns.
+# About how many points a line of code takes, and in a table: a row in addition to its lines, a line, a letter, and the space between two columns.
 CODE_LINE = 9.4
 ROW, LINE, LETTER, BETWEEN = 2.6, 10.0, 4.1, 11.3
 
-# How often the book is set at most, and how many CSS pixels a kind that runs over is given less each time.
+# How often the book is typeset at most, and how many CSS pixels less a kind that runs over is given each time.
 TRIES = 5
 STEP = 8
 
-# What WeasyPrint says of a document, beside it.
+# The file with WeasyPrint's messages, next to the document.
 SAID = "weasyprint.txt"
 
 
 def make(root, work, book):
-    """Makes the PDF in a folder, and returns its path; the document that it is set from is left beside it. How high text is, is known only when it is set:
-    a kind that needs more than its two pages is given less room for its rows and lines, and all is set again."""
+    """Makes the PDF in a folder, and returns its path; the document that it is made from is left next to it. The height of text is known only when it is
+    typeset: a kind that needs more than its two pages is given less room for its rows and lines, and all is typeset again."""
     less = {page.name: 0 for page in book if page.is_kind()}
     for _ in range(TRIES):
         made = set_once(root, work, book, less)
@@ -41,7 +41,7 @@ def make(root, work, book):
 
 
 def set_once(root, work, book, less):
-    """Writes the document and has it set."""
+    """Writes the document and has it typeset."""
     sections = [section(root, work, page, [other.name for other in book], less) for page in book]
     document = Template(pages.template("paper.html")).substitute(
         edition=html.escape(pages.edition(root)), style=pages.template("paper.css"), contents=contents(book),
@@ -92,7 +92,7 @@ def section(root, work, page, names, less):
 
 
 def name_anchors(tree, name):
-    """Makes the anchors of a page unlike those of all others; its title's is its name."""
+    """Makes the anchors of a page differ from those of all others; its title's is its name."""
     for place in tree.iter():
         if place.get("id") is not None:
             place.set("id", f"{name}--{place.get('id')}")
@@ -117,7 +117,7 @@ def move_links(tree, name, names, folder, root):
 
 
 def print_as_text(link, target, root):
-    """Makes a link a piece of text that names the file, where it does not yet."""
+    """Makes a link a piece of text that names the file, if it does not yet."""
     link.tag = "span"
     link.attrib.clear()
     name = target.relative_to(root).as_posix() if root in target.parents else ""
@@ -162,7 +162,7 @@ def table_height(table):
 
 
 def column_widths(rows):
-    """About how many letters each column has room for: each has its longest word, and what is left goes to those that have more to say."""
+    """About how many letters each column has room for: each has its longest word, and what is left goes to those with more text."""
     columns = [[row[column] for row in rows if column < len(row)] for column in range(max(map(len, rows)))]
     longest = [max(map(len, cells)) for cells in columns]
     least = [max((len(word) for cell in cells for word in cell.split()), default=1) for cells in columns]

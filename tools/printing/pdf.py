@@ -11,7 +11,7 @@ import sheet
 
 DESTINATION = re.compile(r'\s*(\d+) \[ XYZ\s+(-?[\d.]+)\s+(-?[\d.]+)\s+\S+\s*\] "(.*)"')
 
-# Dots to a millimetre at which the ink is looked at, and how light a dot may be to be none.
+# Dots per millimetre at which the ink is examined, and from what lightness on a dot is blank.
 DOTS = 4
 WHITE = 245
 
@@ -38,7 +38,7 @@ class Sheet:
         return any(row[columns] and min(row[columns]) < WHITE for row in self.rows[round(top * DOTS):round(bottom * DOTS)])
 
     def blank(self, top, bottom, least):
-        """How much of the height between two places is blank, in strips at least so high."""
+        """How much of the height between two places is blank, in strips at least `least` high."""
         total, strip = 0, 0
         for row in self.rows[round(top * DOTS):round(bottom * DOTS)] + [b"\x00"]:
             if min(row) >= WHITE:
@@ -49,7 +49,7 @@ class Sheet:
         return total / DOTS
 
     def lowest(self, top, bottom):
-        """The place of the lowest ink between two places; the upper one where there is none."""
+        """The place of the lowest ink between two places; the upper one if there is none."""
         for row in range(round(bottom * DOTS) - 1, round(top * DOTS) - 1, -1):
             if min(self.rows[row]) < WHITE:
                 return (row + 1) / DOTS

@@ -32,7 +32,7 @@ class Site:
         self.needed = []
 
     def place(self, source):
-        """Where a file of the repository stands in the set; asks for it where it is not a page."""
+        """Where a file of the repository is in the set; if it is not a page, the set needs it from now on."""
         if source.parent == pages.reference(self.root) and source.suffix == ".md" and source.stem in self.names + ["README"]:
             return "index.html" if source.stem == "README" else source.stem + ".html"
         if source not in self.needed:
@@ -42,7 +42,7 @@ class Site:
         return place_of_file(source, self.root)
 
     def moved(self, link, folder, place):
-        """A link of a file in a folder, as the page at a place has to say it; what leads nowhere stays as it is."""
+        """A link of a file in a folder, rewritten for the page at a place; one that leads nowhere stays as it is."""
         path, mark, anchor = link.partition("#")
         if OUTSIDE.match(link) or path == "":
             return link
@@ -52,7 +52,7 @@ class Site:
         return os.path.relpath(self.place(source), os.path.dirname(place) or ".") + mark + anchor
 
     def write(self, place, title, tree, folder, navigation):
-        """Writes one page, with its links as the set has them."""
+        """Writes one page, with its links rewritten for the set."""
         for element in tree.iter():
             element.attrib.update({name: self.moved(element.get(name), folder, place) for name in ("href", "src") if name in element.attrib})
         wrap(tree, "table", "table")
@@ -65,7 +65,7 @@ class Site:
 
 
 def mark_pictures(tree):
-    """Gives a paragraph with a picture a class, for it is the box in which the picture scrolls."""
+    """Gives a paragraph with a picture a class, since it is the box in which the picture scrolls."""
     for paragraph in tree.iter("p"):
         if paragraph.find("img") is not None:
             paragraph.set("class", "picture")
@@ -109,7 +109,7 @@ def write_index(site):
 
 
 def navigation(before, behind):
-    """The links to the index, to the page before and to the page behind."""
+    """The links to the index, to the previous page and to the next."""
     links = ['<a href="index.html">Index</a>']
     if before is not None:
         links.append(f'<a href="{before.name}.html" rel="prev">← {html.escape(before.entry)}</a>')
@@ -147,7 +147,7 @@ def listing(folder, name):
 
 
 def lines_of(source):
-    """The lines of a file; of one that is no text its octets in hex, sixteen to a line."""
+    """The lines of a file; for one that is not text, its octets in hex, sixteen to a line."""
     octets = source.read_bytes()
     if b"\0" in octets:
         return [octets[at:at + 16].hex(" ").upper() for at in range(0, len(octets), 16)]

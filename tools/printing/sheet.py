@@ -10,7 +10,7 @@ TOP, BOTTOM, INNER, OUTER = 12, 10, 16, 14
 TEXT_WIDTH = PAGE_WIDTH - INNER - OUTER
 TEXT_HEIGHT = PAGE_HEIGHT - TOP - BOTTOM
 
-# Where the lines of the header and of the footer stand, from the top of the page.
+# Where the lines of the header and of the footer are, from the top of the page.
 HEADER = (5.5, 11.0)
 FOOTER = (288.0, 293.5)
 

@@ -1,12 +1,12 @@
-"""Makes a table's repeated cells one: where rows follow each other that share their first cells, such a cell stands once, as high as its rows.
+"""Merges a table's repeated cells: if successive rows share their first cells, each such cell is there once, as high as its rows.
 
 In a table of fields (its first columns are "present when" or "bit", then "group") the first two columns are merged, in one of parameters the op codes. In other
-tables only cells of words are: numbers in rows that follow each other may be equal by chance. A last column of which calls give a refusal, or of what it leaves,
-is merged too."""
+tables only cells with words are, since numbers in successive rows may be equal by chance. A last column is merged too if it names the calls that give a refusal
+or what a refusal leaves."""
 import re
 from itertools import takewhile
 
-# How many first columns are merged in a table that begins with these, whatever stands in them.
+# How many first columns are merged in a table that begins with these, whatever is in them.
 FIRST_COLUMNS = {("present when", "group"): 2, ("bit", "group"): 2, ("op code", "parameter"): 1}
 
 # The last columns that are merged.
@@ -45,7 +45,7 @@ def repeats(rows, columns, any_text):
 
 
 def same(above, cell, any_text):
-    """Whether a cell says what the one above it says, and does so by more than chance."""
+    """Whether a cell has the same text as the one above it, and not by chance."""
     text = text_of(cell)
     return text == text_of(above) and text != "" and (any_text or WORD.search(text) is not None)
 
@@ -65,7 +65,7 @@ def remove(table, rows, repeated):
 
 
 def merge_last(table, rows):
-    """Makes the last cells of rows that follow each other one, where they say the same."""
+    """Merges the last cells of successive rows that have the same text."""
     high = None
     for element, above, row in zip(table.findall("tbody/tr"), [None] + rows, rows):
         if above is not None and same(above[-1], row[-1], False):
@@ -84,7 +84,7 @@ def raise_cells(cells, first, repeated_below):
 
 
 def wrap(tree, tag, name):
-    """Puts each element of a tag into a box of its own, of a class."""
+    """Puts each element with a tag into a box of its own, with a class."""
     places = [(parent, place) for parent in tree.iter() for place, child in enumerate(parent) if child.tag == tag]
     for parent, place in places:
         child = parent[place]

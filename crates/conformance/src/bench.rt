@@ -48,20 +48,20 @@ fn ranges() -> Ranges {
     }
 }
 
-// Opened, the client connected, with indications on.
+// A console that is opened, its client connected with indications on.
 pub(crate) fn ready() -> Console {
     let opened = Console::open(&FEATURE, ranges()).console;
     let connected = opened.connect(0).console;
     connected.indicate(0, true).console
 }
 
-// After a write and its confirmation.
+// The console after a write and its confirmation.
 fn after(console: Console, sent: &[u8]) -> Console {
     let written = console.write(0, sent).console;
     written.confirm(0).console
 }
 
-// The client holds control.
+// A console whose client holds control.
 pub(crate) fn holding() -> Console {
     after(ready(), b"\x00")
 }
@@ -74,7 +74,7 @@ pub(crate) fn paused() -> Console {
     after(running(), b"\x08\x02")
 }
 
-// A test case's identifier, by its group and its number, and the words behind it.
+// A test case's identifier, from its group and its number, and the words after it.
 pub(crate) fn print_case(group: &[u8], number: u8, words: &[u8]) {
     print(b"FTMS/SR/");
     print(group);
@@ -117,7 +117,7 @@ fn is_response(response: Counted, sent: &[u8], result: u8) -> bool {
     check::same(first(&octets, response.count as usize), &expected)
 }
 
-// Whether a status is this octet, in the place of the op code, and the parameter that was sent; 0 is for none.
+// Whether a status is this octet and then the parameter that was sent; 0 means no status.
 fn is_status(said: Counted, sent: &[u8], status: u8) -> bool {
     if status == 0 {
         return said.count == 0;
@@ -163,7 +163,7 @@ fn refusal_of(outcome: Outcome) -> u8 {
     }
 }
 
-// Writes what is refused with this number.
+// A write that must be refused with this number.
 pub(crate) fn refused(b: Bench, sent: &[u8], number: u8) -> Bench {
     let console = b.console;
     let reply = console.write(0, sent);
@@ -176,7 +176,7 @@ pub(crate) fn refused(b: Bench, sent: &[u8], number: u8) -> Bench {
     }
 }
 
-// The verdict, where all was as expected.
+// The verdict, if all was as expected; otherwise FAIL.
 pub(crate) fn conclude(expected: bool, verdict: &[u8]) {
     print(b": ");
     if expected {
@@ -199,7 +199,7 @@ fn feature_of(octets: &[u8]) -> Feature {
     setup.feature
 }
 
-// Whether the machine under test says that it supports a feature.
+// Whether the Feature value of the machine under test has a feature.
 pub(crate) fn supports(feature: u8) -> bool {
     feature_of(&FEATURE).has_feature(feature)
 }

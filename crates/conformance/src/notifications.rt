@@ -1,4 +1,4 @@
-// Section 4.6: the notifications of the machine data. What is run is a record as its machine notifies it; connecting, disabling notifications and the
+// Section 4.6: the notifications of the machine data. A case runs a record as its machine notifies it; connecting, disabling notifications and the
 // time between two records are outside.
 use crate::bench::conclude;
 use crate::bench::print_case;
@@ -40,7 +40,7 @@ fn run_complete(number: u8, kind: u8, energy: u32, verdict: &[u8]) {
     );
 }
 
-// A record with the groups of a feature, which the machine says that it supports.
+// A record with the groups of a feature, which the machine's Feature value must have.
 fn run_groups(number: u8, words: &[u8], kind: u8, feature: u8, groups: u32, verdict: &[u8]) {
     print_case(b"CN/BV-", number, words);
     print_number(b" kind ", kind as u64);

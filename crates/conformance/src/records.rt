@@ -1,4 +1,4 @@
-// A record of each kind as a machine notifies it, and what the test suite looks at in its notifications.
+// A record of each kind as a machine notifies it, and what the test suite checks in its notifications.
 use output::first;
 use output::print;
 use output::print_octets;
@@ -53,7 +53,7 @@ const SAMPLE: [u32; 31] = [
     164,
 ];
 
-// What a notification shows: its optional groups, whether More Data is 0, whether it is right, and the number of parts that its record was said to have.
+// What a notification shows: its optional groups, whether More Data is 0, whether it is right, and the number of parts that the splitter announced.
 struct Seen {
     groups: u32,
     last: bool,
@@ -61,7 +61,7 @@ struct Seen {
     parts: usize,
 }
 
-// Puts the number of a row, where its group is the main one or is in a set.
+// Sets the number of a row's field, if its group is the main one or is in a set.
 fn put_row(row: Row, groups: u32, numbers: &mut [u32; 31]) {
     let field = row.1 as usize;
     let present = row.0 == 0 || has(groups, row.0);
@@ -70,7 +70,7 @@ fn put_row(row: Row, groups: u32, numbers: &mut [u32; 31]) {
     }
 }
 
-// Puts the numbers of a record with these groups.
+// Sets the numbers of a record with these groups.
 fn fill(kind: u8, groups: u32, numbers: &mut [u32; 31]) {
     for i in 0..row_count(kind) {
         put_row(row_of(kind, i), groups, numbers);
@@ -92,7 +92,7 @@ fn meant(kind: u8) -> u32 {
     listed(kind) | 1
 }
 
-// Whether the octets are the flags, the fields of the main group where More Data is 0, those of the groups named, and no more.
+// Whether the octets are the flags, the fields of the main group if More Data is 0, those of the groups named, and no more.
 fn is_filled(kind: u8, flags: u32, length: usize) -> bool {
     let start = flags_length(kind);
     let main = 1 - flags % 2;
@@ -128,7 +128,7 @@ fn notify(kind: u8, groups: u32, numbers: &[u32; 31], part: usize) -> Seen {
     }
 }
 
-// Notifies a record with these groups, up to More Data 0; whether each notification is right, and all groups have come.
+// Notifies a record with these groups, up to More Data 0; returns whether each notification is right and all groups have come.
 pub(crate) fn notify_record(kind: u8, groups: u32) -> bool {
     let mut numbers = [0u32; 31];
     fill(kind, groups, &mut numbers);

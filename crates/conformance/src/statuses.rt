@@ -1,4 +1,4 @@
-// Section 4.8: the status octets, each brought about by a write.
+// Section 4.8: the status octets, each caused by a write.
 use crate::bench::depart;
 use crate::bench::holding;
 use crate::bench::paused;

@@ -1,5 +1,5 @@
-// Lists a capture: from standard input to standard output, a step's lines at a time. Where
-// reading or writing fails, it says so on standard error.
+// Lists a capture from standard input on standard output, the lines of one step at a time. If
+// reading or writing fails, it reports that on standard error.
 use libc::STDIN_FILENO;
 use libc::STDOUT_FILENO;
 use listing::lines::LONGEST_LINES;
@@ -10,7 +10,7 @@ ghost use Prim.Native.Nat.{_+_, _≤_};
 ghost use lib.ListN.{length};
 ghost use Rattle.io.specs.Counts.{Counts};
 
-// The longest capture that is listed, and one octet: by it the listing sees that there is more.
+// One octet more than the longest capture that is listed, so that a longer one is noticed.
 const ROOM: usize = LONGEST_CAPTURE + 1;
 
 // How many octets were read, and whether a read failed.
@@ -19,8 +19,8 @@ struct Input {
     failed: bool,
 }
 
-// One read into a buffer, behind the octets that it has: none come where the input has ended or
-// the read fails.
+// One read into a buffer, after the octets that it has already: reads none if the input has ended
+// or the read fails.
 fn read_some(buffer: &mut [u8], at: usize) -> Input
     requires { ⌜ at ≤ length (now buffer) ⌝ }
     ensures { λ r. ⌜ at + r .length ≤ length (now (buffer .exit)) ⌝ }
@@ -54,7 +54,7 @@ fn read_input(buffer: &mut [u8]) -> Input
     }
 }
 
-// Writes lines; whether the output took them all. Where it did not, that is said.
+// Writes lines, and returns whether all were written; if not, it reports that.
 fn show(lines: &[u8]) -> bool {
     let taken = io::write_all(STDOUT_FILENO, lines);
     if !taken {
@@ -63,7 +63,7 @@ fn show(lines: &[u8]) -> bool {
     taken
 }
 
-// Lists a capture, until the listing ends or the output takes no more.
+// Lists a capture, until the listing ends or a write fails.
 fn show_listing(capture: &[u8]) {
     let mut space = [0u8; LONGEST_LINES];
     let lines: &mut [u8] = &mut space;
@@ -78,7 +78,7 @@ fn show_listing(capture: &[u8]) {
     }
 }
 
-// Lists the input; nothing of it, where it cannot be read.
+// Lists the input, or nothing of it if it cannot be read.
 fn list_input(buffer: &mut [u8]) {
     let input = read_input(buffer);
     if input.failed {

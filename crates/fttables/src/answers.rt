@@ -1,4 +1,4 @@
-// The features that the groups of each kind answer to.
+// The features, with the groups of each kind that belong to each.
 use crate::feature::print_feature;
 use output::print;
 use output::print_number;
@@ -9,13 +9,13 @@ use record::layout::TREADMILL;
 use record::layout::row_count;
 use record::layout::row_of;
 
-// A group answers to one of the features but the last, which is of a user's data.
+// A group belongs to one of the first 16 features; the last, user data retention, has no group.
 const FEATURES: u8 = 16;
 
 // No feature.
 const NONE: u8 = 255;
 
-// The feature that a group answers to, by the group's first field: source document 000, tables 4.5 to 4.10.
+// The feature that a group belongs to, by the group's first field: source document 000, tables 4.5 to 4.10.
 fn feature_of(field: u8) -> u8 {
     match field {
         layout::AVERAGE_SPEED => Feature::AVERAGE_SPEED,
@@ -43,7 +43,7 @@ fn feature_of(field: u8) -> u8 {
     }
 }
 
-// The cell of a feature and a kind: the bits of the kind's groups that answer to it, each once.
+// The cell of a feature and a kind: the bits of the kind's groups that belong to it, each once.
 fn print_cell(kind: u8, feature: u8) {
     let mut before = 0;
     for i in 0..row_count(kind) {

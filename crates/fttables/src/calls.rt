@@ -1,4 +1,4 @@
-// The calls, each by its place in the tables: its name, and what it answers step by step.
+// The calls, numbered as in the tables: the name of each, and what it answers step by step.
 use crate::clients::confirming;
 use crate::clients::connecting;
 use crate::clients::disconnecting;
@@ -19,7 +19,7 @@ pub(crate) const CALLS: u8 = 14;
 
 pub(crate) const WRITE: u8 = 10;
 
-// No call has as many refusals.
+// More steps than any call has refusals.
 pub(crate) const STEPS: u8 = 9;
 
 // The name of a call.
@@ -32,7 +32,8 @@ pub(crate) fn put_call(out: &mut [u8], at: usize, call: u8) -> usize {
     )
 }
 
-// The number of the refusal that a call gives at a step, by the order of the names; 0 where it refuses no more.
+// The number of the refusal that a call gives at a step; 0 once it refuses no more. The calls are in the order
+// of the names.
 pub(crate) fn answer(call: u8, step: u8) -> u8 {
     match call {
         0 => splitting(step),

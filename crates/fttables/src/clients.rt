@@ -1,4 +1,4 @@
-// The calls of the control point, made step by step as in records.rt: a step gives the number of the refusal, or 0 where there is none; and the
+// The calls of the control point, made step by step as in records.rt: a step gives the number of the refusal, or 0 if there is none; and the
 // results of writes.
 use crate::steps::mended;
 use output::first;
@@ -9,7 +9,7 @@ use service::control::ranges::Ranges;
 use service::control::ranges::SignedRange;
 use service::control::ranges::SpeedRange;
 
-// The number of a refusal; 0 where there is none.
+// The number of a refusal; 0 if there is none.
 fn number_of(outcome: Outcome) -> u8 {
     match outcome {
         Outcome::Done => 0,
@@ -17,7 +17,7 @@ fn number_of(outcome: Outcome) -> u8 {
     }
 }
 
-// Ranges from 0 to 0, but for the least speed, which may be above the greatest.
+// Ranges from 0 to 0, except for the least speed, which may be above the greatest.
 fn ranges(least: u8) -> Ranges {
     let speed = SpeedRange {
         least: least as u16,
@@ -89,7 +89,7 @@ pub(crate) fn confirming(step: u8) -> u8 {
     number_of(outcome)
 }
 
-// The console before a step, and from it on the same after its response is confirmed.
+// A console whose response is due before step `from`, and confirmed from that step on.
 fn confirmed(step: u8, from: u8) -> Console {
     let console = awaiting();
     if step < from {
@@ -111,7 +111,7 @@ pub(crate) fn holding() -> Console {
     awaiting().confirm(0).console
 }
 
-// A console whose client 0 holds control and where client 1 can write too; its machine runs before a step, and from it on is stopped.
+// A console whose client 0 holds control and where client 1 can write too; its machine runs before step `from`, and is stopped from it on.
 fn halted(step: u8, from: u8) -> Console {
     let holding = confirmed(from, from).indicate(1, true).console;
     if step < from {
@@ -121,7 +121,7 @@ fn halted(step: u8, from: u8) -> Console {
     holding
 }
 
-// The result of a write in which the op code, the client, the length and what the machine does are put right in turn.
+// The result of a write in which the op code, the client, the length and the machine's state are put right in turn.
 pub(crate) fn resulting(step: u8) -> u8 {
     let octets = [mended(step, 1, 0x13, 0x07), 0];
     let client = mended(step, 2, 1, 0);

@@ -61,7 +61,7 @@ fn put_need(out: &mut [u8], at: usize, need: Need) -> usize {
     }
 }
 
-// The status octets: the first, and the parameter where it follows.
+// The status octets: the first, and the parameter if it follows.
 fn put_status(out: &mut [u8], at: usize, status: Status) -> usize {
     match status {
         Status::Silent => put_bytes(out, at, b"none"),
@@ -73,7 +73,7 @@ fn put_status(out: &mut [u8], at: usize, status: Status) -> usize {
     }
 }
 
-// The width of number i of a parameter, behind those that stand from a place on.
+// The width of number i of a parameter, after a comma unless it is the first, which begins at `from`.
 fn put_number(out: &mut [u8], from: usize, at: usize, parameter: Parameter, i: u8) -> usize {
     let next = put_comma(out, from, at);
     put_width(out, next, parameter.width(i))
@@ -119,7 +119,7 @@ fn put_known(out: &mut [u8], at: usize, code: OpCode) -> usize {
     put_status(out, b, status)
 }
 
-// The cells of an op code that the table does not have: a dash for what is not said of it, and the one response that it gets.
+// The cells of an op code that the table does not have: dashes, and the only response that it gets.
 fn put_unknown(out: &mut [u8], at: usize, op: u8) -> usize {
     let result = WriteResult::NotSupported;
     let a = put_bytes(out, at, b"- | - | - | not supported: 80 ");
@@ -163,7 +163,7 @@ fn put_op_codes(out: &mut [u8], at: usize) -> usize {
     next
 }
 
-// The line of a result, as a write with less and less wrong is answered, with when it is given.
+// The line of a result and when it is given; the results come from a write in which less and less is wrong.
 fn put_result(out: &mut [u8], at: usize, which: u8) -> usize {
     let a = put_open(out, at);
     let b = put_hex(out, a, resulting(which));

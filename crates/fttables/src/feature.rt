@@ -8,11 +8,11 @@ use record::feature::Feature;
 use text::text::put_bytes;
 use text::text::put_decimal;
 
-// The names of the features, a line each.
+// The names of the features, one per line.
 const FEATURES: [u8; 209] =
     *b"average speed\ncadence\ndistance\ninclination\nelevation gain\npace\nstep count\nresistance\nstride count\nenergy\nheart rate\nmetabolic equivalent\nelapsed\nremaining\npower\nbelt force and power output\nuser data retention\n";
 
-// The line of a bit, with its name, one of some.
+// The line of a bit, with line `which` of the names.
 fn put_bit(out: &mut [u8], at: usize, bit: u8, names: &[u8], which: u8) -> usize {
     let a = put_open(out, at);
     let b = put_decimal(out, a, bit as u32);

@@ -1,4 +1,4 @@
-// The keys of a listing that are no field's.
+// The keys of a listing, except the fields'.
 use output::print;
 use text::names::DIRECTION;
 use text::names::GROUPS;

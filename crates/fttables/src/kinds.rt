@@ -28,7 +28,7 @@ fn print_kind(kind: u8) {
     print(first(out, n));
 }
 
-// The length of the first part of a record of the kind with all its groups at a payload, and how many parts there are.
+// For a record of the kind with all its groups, split at a payload: the length of its first part, and the number of parts.
 fn extent_of(kind: u8, payload: usize) -> Extent {
     let numbers = [0u32; 31];
     let mut space = [0u8; GREATEST_PAYLOAD];
@@ -81,7 +81,7 @@ fn print_row(row: Row) {
     print(first(out, n));
 }
 
-// The cell of a field and a kind: nothing where the kind has no such field.
+// The cell of a field and a kind: empty if the kind has no such field.
 fn print_cell(kind: u8, field: u8) {
     for i in 0..row_count(kind) {
         let row = row_of(kind, i);

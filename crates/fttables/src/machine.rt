@@ -1,4 +1,4 @@
-// What the machine of a console does, by its state and the write, as the calls answer; and what a success does, parameters with their units, ranges.
+// What each write does to the machine in each state, as the calls answer; what a success does; the parameters' units; and the ranges.
 use crate::clients::holding;
 use output::first;
 use output::print;
@@ -12,7 +12,7 @@ use service::control::op_codes::op_code;
 // The states of a machine: stopped, running, paused.
 const STATES: u8 = 3;
 
-// The writes that act on them, a column each.
+// The writes that change them, one column each.
 const WRITES: u8 = 4;
 
 const SUCCESS: u8 = 1;
@@ -52,7 +52,7 @@ fn in_state(state: u8) -> Console {
     after(running, &PAUSE)
 }
 
-// The cell of a write: the state after it, or its result where that is not success.
+// The cell of a write: the state after it, or its result if that is not success.
 fn print_write(console: Console, octets: &[u8]) {
     let reply = console.write(0, octets);
     let said = reply.response.octets;

@@ -25,7 +25,7 @@ fn put_numbers(out: &mut [u8], at: usize, call: u8) -> usize {
     next
 }
 
-// What a write gives where it is not refused.
+// What a write gives if it is not refused.
 fn put_results(out: &mut [u8], at: usize, call: u8) -> usize {
     if call == WRITE {
         return put_bytes(out, at, b", then the results");
@@ -33,7 +33,7 @@ fn put_results(out: &mut [u8], at: usize, call: u8) -> usize {
     at
 }
 
-// What stands after a refusal of a call.
+// What a refusal of a call leaves.
 fn put_left(out: &mut [u8], at: usize, call: u8) -> usize {
     put_word(
         out,

@@ -23,7 +23,7 @@ const FORWARD: u8 = 0;
 
 const BACKWARD: u8 = 1;
 
-// A bit, a space before it, where it is in a set.
+// A space and the bit, if it is in a set.
 fn print_bit(set: u32, bit: u8) {
     if has(set, bit) {
         print_number(b" ", bit as u64);
@@ -45,7 +45,7 @@ fn print_groups(part: Part) {
     print_bits(part.groups);
 }
 
-// Writes a part of a record with some groups of the kind and every value 0; its length, or 0 where there is no such part.
+// Writes a part of a record with the given groups and every value 0; returns its length, or 0 if there is no such part.
 fn split_off(
     kind: u8,
     groups: u32,
@@ -69,12 +69,12 @@ fn split_off(
     }
 }
 
-// The same of a record with all groups of the kind.
+// The same for a record with all groups of the kind.
 fn split_all(kind: u8, direction: u8, payload: usize, part: u8, out: &mut [u8]) -> usize {
     split_off(kind, listed(kind), direction, payload, part, out)
 }
 
-// The next cell of a cross trainer's part: its flags where it goes backward.
+// For a cross trainer's part, another cell: its flags when the direction is backward.
 fn print_backward(kind: u8, payload: usize, part: u8) {
     if kind == CROSS_TRAINER {
         let mut space = [0u8; LONGEST];
@@ -98,7 +98,7 @@ fn print_row(kind: u8, payload: usize, number: u8, part: Part, octets: &[u8]) {
     print(b" |\n");
 }
 
-// The line of a part with all groups of the kind; nothing where there is no such part.
+// The line of a part of a record with all groups of the kind; nothing if there is no such part.
 fn print_part(kind: u8, payload: usize, part: u8) {
     let mut space = [0u8; LONGEST];
     let out: &mut [u8] = &mut space;
@@ -110,7 +110,7 @@ fn print_part(kind: u8, payload: usize, part: u8) {
     }
 }
 
-// The cross trainer has a direction in its flags.
+// The table's head; the cross trainer has a direction in its flags.
 fn print_columns(kind: u8) {
     if kind == CROSS_TRAINER {
         print(
@@ -155,7 +155,7 @@ fn print_sent(number: u8, part: Part, length: usize) {
     print(b" |\n");
 }
 
-// A step of splitting, where there is one; what remains after it.
+// Prints a step of splitting, if there is one; returns the groups that remain after it.
 fn print_step(kind: u8, payload: usize, part: u8, left: u32) -> u32 {
     let mut space = [0u8; LONGEST];
     let out: &mut [u8] = &mut space;

@@ -1,5 +1,5 @@
-// The calls on records, notifications and captures, made step by step: at step 0 with everything wrong that can be wrong at once, at each next step
-// with the first of it put right. A step gives the number of the refusal, or 0 where there is none.
+// The calls on records, notifications and captures, made step by step: at step 0 everything is wrong that can be wrong at once, and each next step
+// puts right the first of what is still wrong. A step gives the number of the refusal, or 0 if there is none.
 use crate::steps::length_at;
 use crate::steps::lent;
 use crate::steps::mended;
@@ -102,7 +102,8 @@ pub(crate) fn opening_collection(step: u8) -> u8 {
     refusal.number()
 }
 
-// Collects a notification of cadence, with the kind put right, its length, and then the told set: another group, one group too many, cadence.
+// Collects a notification of cadence, with the kind, its length and the told set put right in turn; the told set is another group, then one group
+// too many, then cadence.
 pub(crate) fn collecting(step: u8) -> u8 {
     let kind = mended(step, 1, 0, INDOOR_BIKE);
     let complete = mended(step, 6, AVERAGE_SPEED + CADENCE, CADENCE);
@@ -131,7 +132,7 @@ pub(crate) fn listing(step: u8) -> u8 {
     refusal.number()
 }
 
-// The octets of a capture: too many at first, then those before its notification alone, and then the notification's too.
+// The length of a capture: too long at first, then without the notification's octets, and then with them.
 fn capture_length(step: u8, notification: u16) -> usize {
     match step {
         0 => CAPTURE,
@@ -140,8 +141,8 @@ fn capture_length(step: u8, notification: u16) -> usize {
     }
 }
 
-// Lists a capture, with its length, kind, end and notification's length put right in turn, and reads the number in the line; in the end no line is
-// put, since the notification is a part that waits for more.
+// Lists a capture, with its length, kind, end and notification's length put right in turn, and reads the refusal's number in the line; at the last
+// step there is no line, since the notification is a part that waits for more.
 pub(crate) fn listed_line(step: u8) -> u8 {
     let length = length_at(step, 4);
     let mut capture = [0u8; CAPTURE];

@@ -1,6 +1,6 @@
 // What the steps of the calls share: a thing is wrong before the step that puts it right.
 
-// A number that is wrong before a step, and right from it on.
+// A number that is wrong before a step, and right from that step on.
 pub(crate) fn mended(step: u8, from: u8, wrong: u8, right: u8) -> u8 {
     if step < from {
         return wrong;
@@ -8,7 +8,7 @@ pub(crate) fn mended(step: u8, from: u8, wrong: u8, right: u8) -> u8 {
     right
 }
 
-// A lent buffer: none of its octets before a step, all of them from it on.
+// A lent buffer: empty before a step, and whole from that step on.
 pub(crate) fn lent(step: u8, from: u8, buffer: &mut [u8]) -> &mut [u8] {
     if step < from {
         return &mut buffer[0..0];
@@ -16,7 +16,7 @@ pub(crate) fn lent(step: u8, from: u8, buffer: &mut [u8]) -> &mut [u8] {
     buffer
 }
 
-// A notification's octets: too many before a step, then fewer than its flags, then its flags alone, and then enough for a group.
+// A notification's length: too long before a step, then shorter than its flags, then its flags alone, then enough for a group.
 pub(crate) fn length_at(step: u8, from: u8) -> u16 {
     if step < from {
         return 513;

@@ -1,4 +1,4 @@
-// The widths of fields, with their ends as they are sent: octets are read as numbers.
+// The widths of fields, with the least and greatest number of each, read from octets.
 use output::print;
 use output::print_number;
 use output::print_octets;

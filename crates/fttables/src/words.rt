@@ -8,7 +8,7 @@ use text::text::put_bytes;
 // No line of words is longer.
 const LONGEST: usize = 160;
 
-// The line after an octet.
+// The line number after an octet.
 fn line_after(line: u8, x: u8) -> u8 {
     if x == LF {
         if line < 255 {
@@ -18,7 +18,7 @@ fn line_after(line: u8, x: u8) -> u8 {
     line
 }
 
-// An octet of a line, where it is the one asked for.
+// Writes an octet of a line, if that line is the one asked for.
 fn put_within(out: &mut [u8], at: usize, line: u8, which: u8, x: u8) -> usize {
     if line == which && x != LF {
         return put_byte(out, at, x);
@@ -26,7 +26,7 @@ fn put_within(out: &mut [u8], at: usize, line: u8, which: u8, x: u8) -> usize {
     at
 }
 
-// One of some words, each of which stands on a line.
+// Writes line `which` of the words.
 pub(crate) fn put_word(out: &mut [u8], at: usize, words: &[u8], which: u8) -> usize {
     let mut next = at;
     let mut line: u8 = 0;
@@ -38,7 +38,7 @@ pub(crate) fn put_word(out: &mut [u8], at: usize, words: &[u8], which: u8) -> us
     next
 }
 
-// Prints one of some words, each of which stands on a line.
+// Prints line `which` of the words.
 pub(crate) fn print_word(words: &[u8], which: u8) {
     let mut text = [0u8; LONGEST];
     let out: &mut [u8] = &mut text;
@@ -56,12 +56,12 @@ pub(crate) fn put_bar(out: &mut [u8], at: usize) -> usize {
     put_bytes(out, at, b" | ")
 }
 
-// The mark behind the last cell, and the end of the line.
+// The mark after the last cell, and the end of the line.
 pub(crate) fn put_close(out: &mut [u8], at: usize) -> usize {
     put_bytes(out, at, b" |\n")
 }
 
-// A comma, where something stands between two places of the output.
+// A comma, if anything was written between the two positions.
 pub(crate) fn put_comma(out: &mut [u8], from: usize, at: usize) -> usize {
     if from == at {
         return at;

@@ -1,4 +1,4 @@
--- Ours lists a record with the names beside the values; one that exchanges the two gains is refuted.
+-- Our listing prints each name beside its value; one that exchanges the two gains is refuted.
 use Prim.Native.Nat.{ℕ, zero, suc, _+_, _-_, _%_, _/_, _^_, _<_}
 use Prim.Native.String.{String}
 use mathlib.Core.Path.{_≡_, refl, sym, ap, ap₂, _∙_}
@@ -45,7 +45,7 @@ abbrev alike : Bool → Bool → Bool
 alike true b = b
 alike false b = not b
 
--- a row's field is one of the 31, and signed exactly where its width is
+-- a row's field is one of the 31, and signed exactly when its width is
 abbrev fine : Row → Bool
 fine row = ltb (row .1) 31 && alike (is-s16 (row .2)) (getD signs (row .1) false)
 
@@ -83,7 +83,7 @@ getD-texts (b ∷ bs) [] i e = absurd (omega (arith, e))
 getD-texts (b ∷ bs) (n ∷ v) zero e = refl
 getD-texts (b ∷ bs) (n ∷ v) (suc i) e = getD-texts bs v i (suc-inj e)
 
--- within a list it does not matter what stands for none
+-- within a list's length the default does not matter
 within : {A : Type 0} (l : List A) (i : ℕ) (d e : A) → i < length l → getD l i d ≡ getD l i e
 within [] i d e h = absurd (omega arith)
 within (x ∷ l) zero d e h = refl
@@ -152,7 +152,7 @@ ours-lists n r t w =
 
 -- ---- a lister that prints the two gains under each other's names
 
--- the last digit of its positive gain: 1010, and 1011 where the two are exchanged
+-- the last digit of the sample's positive gain: 1010, and 1011 if the two are exchanged
 abbrev digit : List ℕ → ℕ
 digit text = getD text 161 0
 

@@ -8,7 +8,7 @@ use Rattle.record.proofs.Tests.{ltb-false}
 use Rattle.listing.specs.Lines.{refused-line}
 use Rattle.listing.specs.Listing.{from-kind, listing}
 
--- whatever it holds, its kind too
+-- whatever the capture holds, even its kind
 pub above : (capture : List ℕ) → 65536 < length capture → listing capture ≡ refused-line 36
 unfolding listing
 above capture h = rw (lt-ltb 65536 (length capture) h)

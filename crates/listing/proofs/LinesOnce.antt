@@ -1,4 +1,4 @@
--- No second reply and no second content of what is lent meets a contract: for each public function, over the contract itself.
+-- At most one reply and one content of the lent buffer satisfy each public function's contract, as the prover reads it.
 use denote.Ref.{now}
 use Rattle.record.proofs.Once.{Once, LeftOnce}
 use Rattle.text.proofs.Once.{wrote-once}

@@ -1,4 +1,4 @@
--- No second reply, state or lent content meets the contracts of the listing.
+-- At most one reply, state and lent content meet a contract of the listing.
 use mathlib.Core.Path.{_≡_, refl, sym, _∙_}
 use denote.Ref.{now}
 use Rattle.record.proofs.Once.{Once, LeftOnce, Variant, with-value, with-refusal, by-meaning}

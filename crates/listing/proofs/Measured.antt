@@ -1,4 +1,4 @@
--- Two passes: a text measured, and then written where it fits. Assumes nothing.
+-- Two passes: a text is measured, and then written if it fits. Assumes nothing.
 use Prim.Native.Nat.{ℕ, _≤_, _<_, min}
 use mathlib.Core.Path.{_≡_, ap, _∙_}
 use mathlib.Core.List.{List, _++_}

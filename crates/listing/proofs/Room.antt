@@ -1,4 +1,4 @@
--- How long lines are: the lines of one notification have room in 1,024 octets. Assumes nothing.
+-- How long lines are: the lines of one notification fit in 1,024 octets. Assumes nothing.
 use Prim.Native.Nat.{ℕ, zero, suc, _+_, _*_, _-_, _/_, _%_, _^_, _<_, _≤_, max}
 use mathlib.Core.Path.{_≡_, refl}
 use mathlib.Core.Bool.{Bool, true, false, cond}
@@ -20,7 +20,7 @@ use Rattle.text.proofs.Writing.{one-digit, more-digits}
 use Rattle.listing.specs.Lines.{value, field-line, field-lines, head-lines, record-lines, refused-line, head-room, fields-room, longest}
 use Rattle.listing.proofs.Rows.{plain-text, minus-text}
 
--- a number below a power of ten has no more digits than the power
+-- a number below a power of ten has no more digits than the exponent
 digits-at-most : (k n : ℕ) → n < 10 ^ suc k → length (decimal n) ≤ suc k
 digits-at-most zero n h = rw (one-digit n h) (omega arith)
 digits-at-most (suc k) n h = elim (decLt n 10) [
@@ -32,7 +32,7 @@ digits-at-most (suc k) n h = elim (decLt n 10) [
       rw (more-digits n big, length-append) (omega arith)
 ]
 
--- the text of a number of 32 bits
+-- the text of a u32
 text-at-most : (n : ℕ) → n < 2 ^ 32 → length (decimal n) ≤ 10
 text-at-most n h = digits-at-most 9 n (omega arith)
 
@@ -54,7 +54,7 @@ value-at-most S16 n h = elim (decLt (n % 2 ^ 16) 32768) [
       rw (minus-text (n % 2 ^ 16) (omega arith) (omega arith)) (omega arith)
 ]
 
--- the largest of a list by a measure: nothing that is read from the list passes it
+-- the largest measure in a list: no element read from the list exceeds it
 largest : {A : Type 0} → (A → ℕ) → List A → ℕ
 largest f [] = 0
 largest f (x ∷ l) = max (f x) (largest f l)

@@ -19,7 +19,7 @@ use Rattle.text.specs.Names.{name}
 use Rattle.text.specs.Text.{decimal, integer, line, Wrote}
 use Rattle.text.proofs.Writing.{then}
 
--- the text of sixteen bits, below 32,768 and from there on
+-- the text of sixteen bits: below 32,768, and from 32,768 on
 pub plain-text : (n : ℕ) → n < 32768 → integer (Octets.signed n) ≡ decimal n
 unfolding integer
 plain-text n h = rw (lt-ltb n 32768 h)
@@ -43,7 +43,7 @@ module _ (set : ℕ) (v : List ℕ) where
   lines-append [] ss = refl
   lines-append (r ∷ rs) ss = rw (lines-append rs ss) (sym (append-assoc (field-line set v r) _ _))
 
-  -- a turn of a loop over rows, and its end
+  -- one iteration of a loop over rows, and its end
   pub next-row : (rs : List Row) (i : ℕ) (d r : Row) {o o′ o″ : List ℕ} {at m k : ℕ} → r ≡ getD rs i d → i < length rs → Wrote o at (field-lines set v (take i rs)) o′ m
       → Wrote o′ m (field-line set v r) o″ k → Wrote o at (field-lines set v (take (i + 1) rs)) o″ k
   next-row rs i d r e h p q =

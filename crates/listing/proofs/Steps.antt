@@ -53,7 +53,7 @@ module _ (w : Walk) (s : List ℕ) where
       let n : length s ≡ 0 → ⊥ = λ z. omega arith in
       rw (ne-eqb (length s) 0 n, le-ltb (length s) (2 + number 2 s) e)
 
--- a walk that has ended, one that has yet to begin, and one behind the kind
+-- a walk that has ended, one that has yet to begin, and one past the kind
 module _ (w : Walk) (s : List ℕ) where
   pub over : w .ended ≡ true → step w s ≡ ends w []
   unfolding step
@@ -72,7 +72,7 @@ pub stopped : (w : Walk) {o : List ℕ} {at : ℕ} {r : Stepped} → length o �
     → Took o at (ends w []) o r
 stopped w {o} {at} h k e = record { lines = rw (e .0) (nothing o at h k); walk = e .1; room = omega arith }
 
--- a step with no lines that goes on behind the kind
+-- a step with no lines that goes on after the kind
 pub begun : (kind : ℕ) {o : List ℕ} {at : ℕ} {l : Listing} → length o ≤ top → at ≤ top → l ≡ begins kind
     → Took o at (goes-on [] (begins kind) 1) o (record { next = at; walk = record { listing = l; position = 1; ended = false } })
 begun kind {o} {at} h k e =

@@ -1,4 +1,4 @@
--- The steps of a walk together: each leaves fewer, and all of them give the listing. Assumes nothing.
+-- The steps of a walk together: each leaves fewer to take, and all of them give the listing. Assumes nothing.
 use Prim.Native.Nat.{ℕ, zero, suc, _+_, _-_, _≤_, _<_}
 use mathlib.Core.Path.{_≡_, refl, sym, ap, _∙_}
 use mathlib.Core.Bool.{Bool, true, false, cond}
@@ -38,7 +38,7 @@ unfolding notifications
 no-more zero l s h = refl
 no-more (suc k) l s h = rw (eq-eqb (length s) 0 h)
 
--- more fuel than there are octets changes nothing
+-- with at least as much fuel as there are octets, the fuel does not matter
 fuel : (k m : ℕ) (l : Listing) (s : List ℕ) → length s ≤ k → length s ≤ m → notifications k l s ≡ notifications m l s
 fuel zero m l s h g = no-more zero l s (omega arith) ∙ sym (no-more m l s (omega arith))
 fuel (suc k) zero l s h g = no-more (suc k) l s (omega arith) ∙ sym (no-more zero l s (omega arith))
@@ -64,7 +64,7 @@ left-of w s =
 abbrev pub remaining : Walk → List ℕ → ℕ
 remaining w s = cond (w .ended) 0 (suc (length s - w .position))
 
--- what a step comes to where the walk has not ended: it writes all that is left, or goes on behind its lines
+-- what a step does if the walk has not ended: it writes all that is left, or goes on after its lines
 data Stepping (w : Walk) (s : List ℕ) : Type 0 where
   stops : (text : List ℕ) → step w s ≡ ends w text → left-of w s ≡ text → Stepping w s
   goes : (text : List ℕ) (l : Listing) (i : ℕ) → step w s ≡ goes-on text l i → w .position < i → i ≤ length s
@@ -149,7 +149,7 @@ module _ (w : Walk) (s : List ℕ) (e : w .ended ≡ false) where
     | no h ↦ first-step (omega arith)
   ]
 
-  -- a walk's lines are those of its step, and then those that are left behind it
+  -- a walk's lines are those of its step, and then those that are left after it
   written-on : Stepping w s → left-of w s ≡ step w s .lines ++ left-of (step w s .walk) s
   written-on (stops text q t) = rw q (t ∙ sym (append-nil text))
   written-on (goes text l i q h k t) =

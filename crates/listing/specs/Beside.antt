@@ -1,5 +1,5 @@
--- "then each present field, main group first, as a bare decimal number under its name above with underscores": the names beside the values, said by a
--- record's named fields, and a predicate on whatever lists a record.
+-- "then each present field, main group first, as a bare decimal number under its name above with underscores": the names beside the values, taken from
+-- a record's named fields, and a predicate on any function that lists a record.
 use Prim.Native.Nat.{ℕ}
 use Prim.Native.String.{String}
 use mathlib.Core.Path.{_≡_}
@@ -54,7 +54,7 @@ entries =
     entry "cadence" (λ r. pos (r .cadence)) ∷
     entry "average_cadence" (λ r. pos (r .«average_cadence»)) ∷ []
 
--- no field's
+-- for a number that is no field's
 abbrev pub no-entry : String × (Record → ℤ)
 no-entry = entry "" (λ r. pos 0)
 
@@ -62,7 +62,7 @@ no-entry = entry "" (λ r. pos 0)
 abbrev pub entry-line : Record → String × (Record → ℤ) → List ℕ
 entry-line r e = line (ascii (e .0) ++ ascii "=") (integer (e .1 r))
 
--- a field is present with its group, the main group always
+-- a field is present if its group is; the main group always is
 abbrev pub present : Record → Row → Bool
 present r row = eqb (row .0) 0 || has (r .groups) (row .0)
 
@@ -71,7 +71,7 @@ abbrev pub lines-beside : Record → List Row → List ℕ
 lines-beside r [] = []
 lines-beside r (row ∷ rows) = cond (present r row) (entry-line r (getD entries (row .1) no-entry)) [] ++ lines-beside r rows
 
--- what any lister of records prints of a well-formed record, its number being n
+-- what any function that lists records must print for a well-formed record, where n is the record's number
 abbrev pub Lists : (ℕ → Record → List ℕ) → Type 0
 Lists lister =
     (n : ℕ) (r : Record) → Typed r → well-formed r ≡ true →

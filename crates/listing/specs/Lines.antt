@@ -21,7 +21,7 @@ value U16 n = decimal n
 value U24 n = decimal n
 value S16 n = integer (signed (n % 2 ^ 16))
 
--- the line of a row whose group is in a set
+-- the line of a row, if its group is in the set
 unfoldable pub field-line : ℕ → List ℕ → Row → List ℕ
 field-line set v r = cond (has set (r .0)) (line (name (r .1)) (value (r .2) (getD v (r .1) 0))) []
 

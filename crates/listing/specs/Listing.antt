@@ -23,7 +23,7 @@ said-lines n (waiting dropped) = []
 said-lines n (handed r dropped) = record-lines n r
 said-lines n (refused m dropped) = refused-line m
 
--- "`record=` (1 up)": the number of the record after this answer. It stays at the largest of 32 bits, which no capture comes near.
+-- "`record=` (1 up)": the number of the next record after this answer. It saturates at the largest u32, which no capture comes near.
 abbrev pub number-after : ℕ → Said → ℕ
 number-after n (waiting dropped) = n
 number-after n (handed r dropped) = min (suc n) 4294967295
@@ -44,12 +44,12 @@ lines-of l s = said-lines (l .number) (collect (l .collection) s .said)
 abbrev pub state-after : Listing → List ℕ → Listing
 state-after l s = state (collect (l .collection) s .next) (number-after (l .number) (collect (l .collection) s .said))
 
--- the octets of the first notification of what is left of a capture
+-- the octets of the first notification in what is left of a capture
 abbrev pub first : List ℕ → List ℕ
 first s = take (number 2 s) (drop 2 s)
 
--- the listing of what is left of a capture, with fuel for as many notifications as it may have; "37 ends it where met": "capture ends inside
--- a length or notification"
+-- the listing of what is left of a capture; the first argument is the recursion's fuel; "37 ends it where met": "capture ends inside a
+-- length or notification"
 unfoldable pub notifications : ℕ → Listing → List ℕ → List ℕ
 notifications zero l s = []
 notifications (suc k) l s =
@@ -74,6 +74,6 @@ meant (Refused x) = Answer.refused (number-of x)
 unfoldable pub answer-of : List ℕ → ℕ → Answer ℕ
 answer-of text lent = provided (leb (length text) lent) 14 (given (length text))
 
--- "A refusal writes no lent octet"; past the listing those stay that were lent
+-- "A refusal writes no lent octet"; lent octets past the listing are unchanged
 abbrev pub lent-after : List ℕ → List ℕ → List ℕ
 lent-after text out = after (answer-of text (length out)) (over out text) out

@@ -19,7 +19,7 @@ pub record Step : Type 0 where
   pub lines : List ℕ
   pub walk : Walk
 
--- a step that ends the listing with these lines, and one that goes on behind them, at a position of the capture
+-- a step that ends the listing with these lines, and one that goes on after them, at a position of the capture
 abbrev pub ends : Walk → List ℕ → Step
 ends w text = record { lines = text; walk = record { listing = w .listing; position = w .position; ended = true } }
 
@@ -35,7 +35,7 @@ at-kind w (kind ∷ s) = cond (known kind) (goes-on [] (begins kind) 1) (ends w 
 unfoldable pub at-beginning : Walk → List ℕ → Step
 at-beginning w capture = cond (ltb 65536 (length capture)) (ends w (refused-line 36)) (at-kind w capture)
 
--- "for each notification a u16 length and its octets", of which s is what is left; "37 ends it where met": "capture ends inside a length or
+-- "for each notification a u16 length and its octets"; s is what is left of the capture; "37 ends it where met": "capture ends inside a length or
 -- notification"
 unfoldable pub at-notification : Walk → List ℕ → Step
 at-notification w s =
@@ -44,7 +44,7 @@ at-notification w s =
     (cond (ltb (length s) (2 + number 2 s)) (ends w (refused-line 37))
     (goes-on (lines-of l (first s)) (state-after l (first s)) (w .position + (2 + number 2 s))))
 
--- the step of a walk: where it has ended there are no more lines; at position 0 it begins
+-- the next step of a walk: if it has ended there are no more lines; at position 0 it begins
 unfoldable pub step : Walk → List ℕ → Step
 step w capture =
     cond (w .ended) (ends w [])
@@ -59,7 +59,7 @@ unfoldable pub steps : ℕ → Walk → List ℕ → List ℕ
 steps zero w capture = []
 steps (suc n) w capture = step w capture .lines ++ steps n (step w capture .walk) capture
 
--- a step was taken: its lines were put at a position of a buffer, the reply has the walk after it, and the lines are no longer than the room for them
+-- a step was taken: its lines were written at a position of a buffer, the reply has the walk after it, and the lines are not longer than `longest`
 pub record Took (out : List ℕ) (at : ℕ) (s : Step) (out′ : List ℕ) (r : Stepped) : Type 0 where
   pub lines : Wrote out at (s .lines) out′ (r .next)
   pub walk : r .walk ≡ s .walk

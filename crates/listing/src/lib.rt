@@ -1,4 +1,4 @@
-// The listing of a capture: lines of text, one for each thing that a record or a refusal says.
+// The listing of a capture as text: a record's lines, or the line of a refusal.
 pub mod capture;
 pub mod lines;
 pub mod walk;

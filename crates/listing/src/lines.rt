@@ -26,13 +26,13 @@ ghost use Rattle.record.specs.Refusal.{number-of};
 ghost use Rattle.listing.specs.Lines.{value, field-line, field-lines, head-lines, record-lines, refused-line, head-room, fields-room, longest};
 ghost use Rattle.text.specs.Text.{Wrote, integer};
 
-// The room for the lines of one notification: no record's and no refusal's are longer.
+// Room for the lines of one notification: a record or a refusal never takes more.
 pub const LONGEST_LINES: usize = 1024;
 
 // The octet before a negative number.
 const MINUS: u8 = 45;
 
-// A number whose sixteen bits are a signed one.
+// Writes the low sixteen bits of a number as a signed number.
 fn put_wire(out: &mut [u8], at: usize, n: u32) -> usize
     ensures { λ r. ⌜ Wrote (now (out .entry)) at (integer (signed (n % 2 ^ 16))) (now (out .exit)) r ⌝ }
 {
@@ -55,7 +55,7 @@ fn put_value(out: &mut [u8], at: usize, width: Width, n: u32) -> usize
     }
 }
 
-// The number of a field; 0 where there is no such field.
+// The number of a field; 0 if there is no such field.
 fn number_at(numbers: &[u32], field: usize) -> u32
     ensures { λ r. ⌜ r ≡ getD (now (numbers .entry)) field 0 ⌝ }
 {
@@ -66,7 +66,7 @@ fn number_at(numbers: &[u32], field: usize) -> u32
     }
 }
 
-// The line of a row whose group is in the set.
+// The line of a row, if its group is in the set.
 fn put_row(out: &mut [u8], at: usize, set: u32, row: Row, numbers: &[u32]) -> usize
     ensures { λ r. ⌜ Wrote (now (out .entry)) at (field-line set (now (numbers .entry)) row) (now (out .exit)) r ⌝ }
 {
@@ -81,7 +81,7 @@ fn put_row(out: &mut [u8], at: usize, set: u32, row: Row, numbers: &[u32]) -> us
     at
 }
 
-// The lines of the fields of a kind whose groups are in the set, in the order of the wire.
+// The lines of a kind's fields whose groups are in the set, in wire order.
 fn put_fields(out: &mut [u8], at: usize, kind: u8, set: u32, numbers: &[u32]) -> usize
     ensures { λ r. ⌜ Wrote (now (out .entry)) at (field-lines set (now (numbers .entry)) (layout kind)) (now (out .exit)) r ⌝ }
     ensures { λ _. ⌜ length (field-lines set (now (numbers .entry)) (layout kind)) ≤ fields-room ⌝ }

@@ -1,4 +1,4 @@
-// The walk over a capture: a step judges the capture's beginning, or lists one notification. The whole listing and a program take the same steps.
+// The walk over a capture: a step judges the capture's beginning, or lists one notification. Listing a whole capture and `ftlist` take the same steps.
 use crate::lines::put_record;
 use crate::lines::put_refused;
 use record::groups::is_known;
@@ -27,7 +27,7 @@ pub const LONGEST_CAPTURE: usize = 65536;
 // The octets of a notification's length.
 const LENGTH_OCTETS: usize = 2;
 
-// The largest record number: it stays. No capture has so many records.
+// The record number saturates here. No capture has so many records.
 const LAST_NUMBER: u32 = 4294967295;
 
 // The state of a listing: the collection, which is open, and the number of the next record.
@@ -36,20 +36,20 @@ pub struct Listing {
     pub number: u32,
 }
 
-// How far a listing has come: its state, its position in the capture, and whether it has ended. At position 0 it has yet to begin.
+// How far a listing has come: its state, its position in the capture, and whether it has ended. At position 0 it has not begun.
 pub struct Walk {
     pub listing: Listing,
     pub position: usize,
     pub ended: bool,
 }
 
-// The position behind a step's lines, and the walk after it.
+// The output position after a step's lines, and the walk after the step.
 pub struct Stepped {
     pub next: usize,
     pub walk: Walk,
 }
 
-// The position behind a notification's lines, and the listing after it.
+// The output position after a notification's lines, and the listing after the notification.
 struct Noted {
     next: usize,
     listing: Listing,
@@ -66,7 +66,7 @@ fn start(kind: u8) -> Listing
     }
 }
 
-// The lines of what the collection answers: none where it waits.
+// The lines of a collection's answer: none for waiting.
 fn put_answer(out: &mut [u8], at: usize, number: u32, answer: Collected) -> usize
     ensures { λ r. ⌜ Wrote (now (out .entry)) at (said-lines number (meant answer)) (now (out .exit)) r ⌝ }
     ensures { λ r. ⌜ length (said-lines number (meant answer)) ≤ longest ⌝ }
@@ -103,7 +103,7 @@ fn number_after(number: u32, answer: Collected) -> u32
     }
 }
 
-// One notification: its lines, put at a position of a lent buffer, and the listing after it.
+// One notification: its lines, written at a position of a lent buffer, and the listing after it.
 fn put_notification(out: &mut [u8], at: usize, listing: Listing, notification: &[u8]) -> Noted
     ensures { λ r. ⌜ Wrote (now (out .entry)) at (lines-of listing (now (notification .entry))) (now (out .exit)) (r .next) ⌝ }
     ensures { λ r. ⌜ r .listing ≡ state-after listing (now (notification .entry)) ⌝ }
@@ -120,7 +120,7 @@ fn put_notification(out: &mut [u8], at: usize, listing: Listing, notification: &
     }
 }
 
-// A walk that ends here, with its lines before a position.
+// Ends the walk, whose lines end at `next`.
 fn end(next: usize, walk: Walk) -> Stepped
     ensures { λ r. ⌜ (r .next ≡ next) × (r .walk ≡ ends walk [] .walk) ⌝ }
 {
@@ -136,7 +136,7 @@ fn end(next: usize, walk: Walk) -> Stepped
     }
 }
 
-// A walk that ends with the line of a refusal.
+// Ends the walk with the line of a refusal.
 fn refuse(out: &mut [u8], at: usize, walk: Walk, refusal: Refusal) -> Stepped
     ensures { λ r. ⌜ Took (now (out .entry)) at (ends walk (refused-line (number-of refusal))) (now (out .exit)) r ⌝ }
 {
@@ -144,7 +144,7 @@ fn refuse(out: &mut [u8], at: usize, walk: Walk, refusal: Refusal) -> Stepped
     end(next, walk)
 }
 
-// The first step: 36, then 11; it goes on behind the kind. The kind of an empty capture reads as 0, which is none.
+// The first step: judges 36, then 11, and goes on after the kind. The kind of an empty capture reads as 0, which is not a kind.
 fn judge(out: &mut [u8], at: usize, walk: Walk, capture: &[u8]) -> Stepped
     ensures { λ r. ⌜ Took (now (out .entry)) at (at-beginning walk (now (capture .entry))) (now (out .exit)) r ⌝ }
 {
@@ -167,7 +167,7 @@ fn judge(out: &mut [u8], at: usize, walk: Walk, capture: &[u8]) -> Stepped
     }
 }
 
-// A step behind the kind: the end, 37, or one notification.
+// A step after the kind: the end, 37, or one notification.
 fn advance(out: &mut [u8], at: usize, walk: Walk, capture: &[u8]) -> Stepped
     ensures { λ r. ⌜ Took (now (out .entry)) at (at-notification walk (drop (walk .position) (now (capture .entry)))) (now (out .exit)) r ⌝ }
 {
@@ -206,7 +206,7 @@ pub fn begin() -> Walk
     }
 }
 
-// One step of a walk over a capture: its lines, put at a position of a lent buffer, and the walk after it. No step's lines are longer than `LONGEST_LINES`.
+// One step of a walk over a capture: its lines, written at a position of a lent buffer, and the walk after it. A step's lines never exceed `LONGEST_LINES`.
 pub fn step(out: &mut [u8], at: usize, walk: Walk, capture: &[u8]) -> Stepped
     ensures { λ r. ⌜ Took (now (out .entry)) at (Steps·step walk (now (capture .entry))) (now (out .exit)) r ⌝ }
 {

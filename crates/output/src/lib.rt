@@ -1,4 +1,4 @@
-// What the programs print with: text, numbers and octets on standard output. The kit has no model of an output, so what prints has no contract: it is safe and ends.
+// Printing for the programs: text, numbers and octets on standard output. The kit has no model of output, so what prints has no contract but is safe and ends.
 use libc::STDOUT_FILENO;
 use record::octets::unsigned;
 use text::text::put_hex;
@@ -9,13 +9,13 @@ pub fn print(text: &[u8]) {
     io::write_all(STDOUT_FILENO, text);
 }
 
-// A number behind its label.
+// A label, then a number.
 pub fn print_number(label: &[u8], n: u64) {
     io::write_all(STDOUT_FILENO, label);
     io::print_decimal(STDOUT_FILENO, n);
 }
 
-// A signed number behind its label, the negative ones after `-`.
+// A label, then a signed number, with `-` before a negative one.
 pub fn print_signed(label: &[u8], z: i16) {
     let bits = unsigned(z) as u64;
     if z < 0 {
@@ -26,7 +26,7 @@ pub fn print_signed(label: &[u8], z: i16) {
     }
 }
 
-// An octet as two digits in capitals, behind a space.
+// A space, then an octet as two hexadecimal digits in capitals.
 fn print_octet(x: u8) {
     let mut text = [b' ', 0, 0];
     put_hex(&mut text, 1, x);
@@ -39,7 +39,7 @@ pub fn print_octets(s: &[u8]) {
     }
 }
 
-// The first octets of a buffer; all of them, where it has fewer.
+// The first `length` octets of a buffer; all of it if it has fewer.
 pub fn first(buffer: &[u8], length: usize) -> &[u8]
     ensures { λ r. ⌜ now r ≡ take length (now (buffer .entry)) ⌝ }
 {

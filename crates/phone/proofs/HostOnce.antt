@@ -1,4 +1,4 @@
--- No second reply meets the contract of a C host's call, and no second content is left behind its pointers.
+-- For each call of a C host, at most one reply and one content behind each pointer satisfy the contract.
 use mathlib.Core.Path.{sym, _∙_}
 use denote.Ref.{now}
 use Rattle.record.proofs.Once.{Once, LeftOnce}

@@ -1,4 +1,4 @@
--- Whatever a notification with More Data 0 holds is a well-formed record: so a host is answered 13 for More Data 1 and for nothing else.
+-- A notification with More Data 0 always holds a well-formed record: so a host gets 13 for More Data 1 and for nothing else.
 use Prim.Native.Nat.{ℕ, _%_, _<_}
 use mathlib.Core.Path.{_≡_, refl, sym, ap, _∙_, subst}
 use mathlib.Core.Bool.{true, false, true≢false}

@@ -1,4 +1,4 @@
--- A host that hands in a record's one notification is answered as splitting the record answers: octets too.
+-- A host that passes in a record as one notification gets what splitting the record gives, octets included.
 use Prim.Native.Nat.{ℕ, _+_, _%_, _≤_}
 use mathlib.Core.Path.{_≡_, refl, _∙_}
 use mathlib.Core.Bool.{Bool, true, false}
@@ -23,7 +23,7 @@ use Rattle.phone.specs.Host.{split-answer, split-lent}
 abbrev pub whole : Record → List ℕ
 whole r = octets (r .kind) (1 + r .groups) (r .direction) (wire r)
 
--- a test that is made twice in a row says the same
+-- making the same two tests again changes nothing
 twice : {A : Type 0} (a b : Bool) (m n : ℕ) (x : Answer A) → provided a m (provided b n (provided a m (provided b n x))) ≡ provided a m (provided b n x)
 twice true true m n x = refl
 twice true false m n x = refl

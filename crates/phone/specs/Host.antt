@@ -1,4 +1,4 @@
--- What a C host is answered, and what stands behind its pointers afterwards.
+-- What a call returns to a C host, and what its pointers point to afterwards.
 use Prim.Native.Nat.{ℕ}
 use mathlib.Core.List.{List}
 use lib.ListN.{length}
@@ -16,12 +16,12 @@ abbrev pub code : {A : Type 0} → Answer A → ℕ
 code (refused n) = n
 code (given a) = 0
 
--- a number behind a pointer: what is handed out, or what stood there
+-- the number that a pointer points to afterwards: what the call stores there, or what was there before
 abbrev pub told : {A : Type 0} → Answer A → (A → ℕ) → ℕ → ℕ
 told (refused n) f stood = stood
 told (given a) f stood = f a
 
--- a part of the record that a notification holds, by what it says of itself: "13 also means More Data 1"
+-- a part of the record in a notification, by what was read of the notification: "13 also means More Data 1"
 abbrev pub from-part : ℕ → List ℕ → ℕ → ℕ → ℕ → Part → Answer Extent
 from-part kind s payload i lent p = provided (p .last) 13 (split-wire kind (p .groups) (p .direction) (joined kind s zeros) payload i lent)
 
@@ -41,7 +41,7 @@ abbrev pub octets-from : ℕ → List ℕ → ℕ → ℕ → Answer Part → Li
 octets-from kind s payload i (refused n) out = out
 octets-from kind s payload i (given p) out = over out (octets kind (set-at kind (p .groups) payload i) (p .direction) (joined kind s zeros))
 
--- the lent octets afterwards: the part's, and past its length those that were lent
+-- the lent octets afterwards: the part's, and past its length those that were there
 abbrev pub split-lent : ℕ → List ℕ → ℕ → ℕ → List ℕ → List ℕ
 split-lent kind s payload i out =
     after (split-answer kind s payload i (length out)) (octets-from kind s payload i (part-of kind s) out) out

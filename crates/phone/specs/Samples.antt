@@ -14,7 +14,8 @@ use Rattle.phone.specs.Host.{split-answer}
 abbrev pub bike : List ℕ
 bike = 0x44 ∷ 0x00 ∷ 0xc4 ∷ 0x09 ∷ 0xb4 ∷ 0x00 ∷ 0xfa ∷ 0x00 ∷ []
 
--- In order: its one part; 14 at 7 octets; 15 before 14; 12 before 31; 11 before 12; 31 of no octets; 32 of its first 7; 32 before 13; 13 for More Data 1.
+-- In order: its one part; 14 for 7 lent octets; 15 before 14; 12 before 31; 11 before 12; 31 for no octets; 32 for its first 7; 32 before 13; 13 for
+-- More Data 1.
 pub samples :
     (split-answer 6 bike 20 0 8 ≡ given (record { length = 8; parts = 1 })) ×
     (split-answer 6 bike 20 0 7 ≡ refused 14) ×

@@ -1,4 +1,4 @@
-// The calls of a C host. Each returns 0, or a refusal's number; on a refusal nothing behind a pointer changes.
+// The calls of a C host. Those that split and list return 0 or a refusal's number; on a refusal nothing that a pointer points to changes.
 mod split;
 
 use crate::split::handed_out;
@@ -13,8 +13,8 @@ ghost use Rattle.text.specs.Text.{top};
 ghost use Rattle.listing.specs.Listing.{listing, meant, answer-of, lent-after};
 ghost use Rattle.phone.specs.Host.{code, told, split-answer, split-lent};
 
-// A part, counted from 0, of the record that one notification of a kind holds, at a payload: its octets, its length and the number of parts.
-// Refusals 11, 12, 30, 31, 32, 13, 15, 14.
+// One part, counted from 0, of the record that a notification of the kind holds, split at a payload: its octets, its length and the number
+// of parts. Refusals, in this order: 11, 12, 30, 31, 32, 13, 15, 14.
 #[no_mangle]
 pub extern "C" fn hordivasz_split(
     kind: u32,
@@ -34,7 +34,7 @@ pub extern "C" fn hordivasz_split(
     handed_out(answer, out_length, out_parts)
 }
 
-// How many octets a listing has goes out behind the pointer; on refusal 14 what stands there stays.
+// Stores the length of a listing through the pointer; on refusal 14 leaves what was there.
 fn listed(answer: ListAnswer, out_length: &mut usize) -> u32
     ensures { λ r. ⌜ r ≡ code (meant answer) ⌝ }
     ensures { λ _. ⌜ now («out_length» .exit) ≡ told (meant answer) (λ n. n) (now («out_length» .entry)) ⌝ }
@@ -48,7 +48,7 @@ fn listed(answer: ListAnswer, out_length: &mut usize) -> u32
     }
 }
 
-// The listing of a capture, and its length: refusal 14 where it does not fit.
+// The listing of a capture, and its length: refusal 14 if it does not fit.
 #[no_mangle]
 pub extern "C" fn hordivasz_list(capture: &[u8], out: &mut [u8], out_length: &mut usize) -> u32
     ensures { λ r. ⌜ r ≡ code (answer-of (listing (now (capture .entry))) (length (now (out .entry)))) ⌝ }
@@ -59,7 +59,7 @@ pub extern "C" fn hordivasz_list(capture: &[u8], out: &mut [u8], out_length: &mu
     listed(answer, out_length)
 }
 
-// How many octets the listing of a capture has: what to lend for it.
+// How many octets the listing of a capture has: the length of the buffer to lend for it.
 #[no_mangle]
 pub extern "C" fn hordivasz_list_length(capture: &[u8]) -> usize
     ensures { λ r. ⌜ r ≡ min (length (listing (now (capture .entry)))) top ⌝ }

@@ -1,4 +1,4 @@
-// The calls of a collection, and what a line of the output says of one: the answer, then the collection after it.
+// The calls of a collection, and the line of the output for each: the answer, then the collection after it.
 use crate::printing::print_bit;
 use crate::printing::print_numbers;
 use crate::printing::print_refusal;
@@ -45,7 +45,7 @@ pub(crate) fn print_opening(answer: Opening) {
     }
 }
 
-// The fields of a record by their names, in the order of the table: to begin with, those up to energy.
+// The fields of a record by their names, in the order of their numbers: first those up to energy.
 fn print_first_fields(r: Record) {
     print_u16(b" speed=", r.speed);
     print_u16(b" floors=", r.climb.floors);
@@ -65,7 +65,7 @@ fn print_first_fields(r: Record) {
     print_u8(b" energy_per_minute=", r.energy.per_minute);
 }
 
-// Those behind energy.
+// Those after energy.
 fn print_other_fields(r: Record) {
     print_u8(b" heart_rate=", r.heart_rate);
     print_u8(b" metabolic_equivalent=", r.metabolic_equivalent);

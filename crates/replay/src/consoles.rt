@@ -1,4 +1,4 @@
-// The calls of a console, and what a line of the output says of one: the reply, then the console after it.
+// The calls of a console, and the line of the output for each: the reply, then the console after it.
 use crate::lines::begins;
 use crate::printing::print_bit;
 use crate::printing::print_refusal;
@@ -57,7 +57,7 @@ fn signed_range_at(s: &[u8], at: usize) -> SignedRange {
     }
 }
 
-// Opens a machine: its ranges, and all octets behind them as the Feature value.
+// Opens a machine: its ranges, and all octets after them as the Feature value.
 pub(crate) fn opened(s: &[u8]) -> Reply {
     if s.len() < 18 {
         return Console::open(s, ranges_at(s));
@@ -65,7 +65,7 @@ pub(crate) fn opened(s: &[u8]) -> Reply {
     Console::open(&s[18..], ranges_at(s))
 }
 
-// A client's write: all octets behind the client's.
+// A client's write: the client, and all octets after it as what is written.
 fn written(console: Console, s: &[u8]) -> Reply {
     if s.len() == 0 {
         return console.write(0, s);
@@ -83,7 +83,7 @@ pub(crate) fn is_client_call(line: &[u8]) -> bool {
         || begins(line, b"write ")
 }
 
-// The call of a client that a line names: the last is a write.
+// The call of a client that a line names; if it is none of the first five, it is a write.
 pub(crate) fn called(console: Console, line: &[u8], s: &[u8]) -> Reply {
     let client = u8_at(s, 0);
     if begins(line, b"connect ") {
@@ -104,7 +104,7 @@ pub(crate) fn called(console: Console, line: &[u8], s: &[u8]) -> Reply {
     written(console, s)
 }
 
-// Octets beside their count: those past the count too.
+// A count, and all octets, even those past the count.
 pub(crate) fn print_counted(label: &[u8], counted: Counted) {
     let octets = counted.octets;
     print_u8(label, counted.count);

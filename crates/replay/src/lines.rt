@@ -1,7 +1,7 @@
-// A line of a script: a word in small letters, and octets as pairs of hex digits in capitals; whatever else stands there is passed over.
+// A line of a script: a word in small letters, and octets as pairs of hex digits in capitals; anything else is skipped.
 use record::octets::u8_at;
 
-// The octets of a line that are looked at, and those that its digits can give.
+// The most characters of a line that are read, and the most octets that its digits can give.
 pub(crate) const LONGEST: usize = 4096;
 
 pub(crate) const MOST_OCTETS: usize = 1024;
@@ -16,7 +16,7 @@ pub(crate) fn begins(line: &[u8], word: &[u8]) -> bool {
     true
 }
 
-// The value of a hex digit; 16 of anything else.
+// The value of a hex digit; 16 for anything else.
 fn value(x: u8) -> u8 {
     if b'0' <= x && x <= b'9' {
         return x - b'0';
@@ -27,7 +27,7 @@ fn value(x: u8) -> u8 {
     16
 }
 
-// Puts one more digit behind those of the octets, and counts it; what is no digit is passed over.
+// Appends a digit to the octets, and counts it; anything else is skipped.
 fn put_digit(octets: &mut [u8; MOST_OCTETS], digits: usize, x: u8) -> usize {
     let d = value(x);
     if digits < 2 * MOST_OCTETS {
@@ -40,7 +40,7 @@ fn put_digit(octets: &mut [u8; MOST_OCTETS], digits: usize, x: u8) -> usize {
     digits
 }
 
-// Puts the octets of a line; how many there are.
+// Reads the octets of a line; returns how many there are.
 pub(crate) fn octets_of(line: &[u8], octets: &mut [u8; MOST_OCTETS]) -> usize {
     let mut digits = 0;
     for i in 0..line.len() {

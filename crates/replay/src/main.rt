@@ -1,5 +1,5 @@
-// Replays a script of calls, a line each, from standard input: what a call replies, and the whole state after it, is a line of standard output.
-// For tests: host/ holds it to an implementation that shares nothing with the code.
+// Replays a script of calls, one per line, from standard input: for each it prints a line with the reply and the whole state after the call.
+// For tests: host/ compares it with an implementation that shares no code with it.
 mod collections;
 mod consoles;
 mod lines;
@@ -13,7 +13,7 @@ use crate::script::begin;
 use crate::script::run_block;
 use libc::STDIN_FILENO;
 
-// Reads once and replays the lines that end there; nothing, where the input has ended or the read fails.
+// Reads once and replays the lines that end in what was read: none if the input has ended or the read fails.
 fn run_some(replay: Replay, line: &mut [u8; LONGEST]) -> Replay {
     let mut block = io::large_buffer();
     let got = libc::read(STDIN_FILENO, &mut block);
@@ -21,7 +21,7 @@ fn run_some(replay: Replay, line: &mut [u8; LONGEST]) -> Replay {
     run_block(replay, line, &block[..count])
 }
 
-// A proved loop has to end, and nothing says that an input does: so the turns count down, from a number that no run uses up.
+// A proved loop has to end, and an input might never do so: so the iterations count down from a number that no run uses up.
 fn main() {
     let mut line = [0u8; LONGEST];
     let mut replay = begin();

@@ -1,4 +1,4 @@
-// What the lines of the output are put together from.
+// The pieces of which a line of the output is made.
 use output::print;
 use output::print_number;
 use record::refusal::Refusal;
@@ -28,7 +28,7 @@ pub(crate) fn print_u32(label: &[u8], n: u32) {
     print_number(label, n as u64);
 }
 
-// Wire numbers, each behind a space.
+// Wire numbers, each after a space.
 pub(crate) fn print_numbers(numbers: &[u32; 31]) {
     for i in 0..31 {
         print_u32(b" ", numbers[i]);

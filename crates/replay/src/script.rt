@@ -1,4 +1,4 @@
-// A script: its lines, one after the other, on one console and one collection. A line is a word, and octets in hex; numbers have their least octet first.
+// A script: its lines are run in turn, on one console and one collection. A line is a word, and octets in hex; numbers have their least octet first.
 //   machine        the ranges (speed, inclination, resistance, power: least and greatest in two octets each; heart rate: in one each), then the Feature value
 //   connect, disconnect, on, off, confirm    a client
 //   write          a client, then the octets that it writes
@@ -31,7 +31,7 @@ use service::control::Console;
 use service::control::Reply;
 use text::text::LF;
 
-// What the lines act on, the octets of the line that has not ended yet, and whether the input has ended.
+// What the lines act on, the length of the line that has not ended yet, and whether the input has ended.
 pub(crate) struct Replay {
     pub(crate) console: Console,
     pub(crate) collection: Collection,
@@ -39,7 +39,7 @@ pub(crate) struct Replay {
     pub(crate) ended: bool,
 }
 
-// What stands before the first line: a console whose opening was refused, and an open collection of a treadmill.
+// The state before the first line: a console whose opening was refused, and an open collection of a treadmill.
 pub(crate) fn begin() -> Replay {
     let refused = opened(b"");
     let none = open(1, Told::Open);
@@ -110,7 +110,7 @@ fn split_of(replay: Replay, s: &[u8]) -> Replay {
     replay
 }
 
-// A line that is no call: words behind `#` are printed as they stand.
+// A line that is no call: one that begins with `#` is printed as it is.
 fn said(replay: Replay, line: &[u8]) -> Replay {
     if begins(line, b"#") {
         print(line);
@@ -121,7 +121,7 @@ fn said(replay: Replay, line: &[u8]) -> Replay {
     replay
 }
 
-// A line of the console, or one that is no call at all.
+// A line for the console, or one that is no call at all.
 fn run_console(replay: Replay, line: &[u8], s: &[u8]) -> Replay {
     if begins(line, b"machine ") {
         return replied(replay, opened(s));
@@ -163,7 +163,7 @@ fn run_line(replay: Replay, line: &[u8]) -> Replay {
     run_first(replay, line, &octets, count)
 }
 
-// One more octet of a line, and the line's length with it; what a line has above the longest is left out.
+// Appends an octet to a line, and returns the line's length; octets past `LONGEST` are left out.
 fn lengthened(line: &mut [u8; LONGEST], length: usize, x: u8) -> usize {
     if length < LONGEST {
         line[length] = x;
@@ -172,7 +172,7 @@ fn lengthened(line: &mut [u8; LONGEST], length: usize, x: u8) -> usize {
     length
 }
 
-// The lines that end in a block of the input; what is left of it waits in `line`. An empty block is the input's end.
+// Runs the lines that end in a block of the input; the unfinished rest stays in `line`. An empty block is the input's end.
 pub(crate) fn run_block(replay: Replay, line: &mut [u8; LONGEST], block: &[u8]) -> Replay {
     let mut now = replay;
     let mut count = replay.length;

@@ -1,4 +1,4 @@
-// The typed split: a record by its named fields, and what a line of the output says of a part: the answer, then every lent octet.
+// The typed splitter: a record by its named fields, and the line of the output for a part: the answer, then every lent octet.
 use crate::collections::u32_at;
 use crate::printing::print_refusal;
 use output::first;
@@ -24,7 +24,7 @@ use record::split::split;
 // What a lent octet holds until it is written.
 const UNTOUCHED: u8 = 0xAA;
 
-// A field of an octet, of two, and of two with a sign: each field has four octets of the line, behind the sixteen of the other numbers.
+// A field of one octet, of two, and of two with a sign: each field has four octets of the line, after the sixteen of the other numbers.
 fn octet(s: &[u8], field: u8) -> u8 {
     u8_at(s, 16 + 4 * field as usize)
 }
@@ -129,7 +129,7 @@ fn print_answer(answer: SplitAnswer) {
     }
 }
 
-// Splits into the first octets of a buffer, or into all of them.
+// Splits into the first `room` octets of a buffer, or into all of it if it has fewer.
 fn split_into(
     r: Record,
     payload: usize,
@@ -150,7 +150,7 @@ fn print_lent(buffer: &[u8; 512], room: usize) {
     print(b"\n");
 }
 
-// Splits the record of a line, by the line's payload and part, into as many lent octets as its room says.
+// Splits the record of a line, at the line's payload and part, into as many lent octets as the line gives.
 pub(crate) fn run_split(s: &[u8]) {
     let payload = u32_at(s, 6) as usize;
     let part = u32_at(s, 10) as usize;

@@ -1,5 +1,5 @@
 // Three records of a cross trainer, each in three parts, some of which are lost: an open
-// collection mixes two records, where a fixed one refuses, 34.
+// collection mixes two records, while a fixed one refuses with 34.
 use crate::round::PAYLOAD;
 use crate::round::blank;
 use crate::round::show_refused;
@@ -66,8 +66,8 @@ fn numbered(n: u8) -> Record {
     record
 }
 
-// Splits a part off record n into the lent octets, and begins its line; its length, or 0 where
-// it is refused.
+// Splits a part off record n into the lent octets, and prints the beginning of its line; returns
+// its length, or 0 if it is refused.
 fn split_off(n: u8, part: usize, out: &mut [u8]) -> usize {
     match split(numbered(n), PAYLOAD, part, out) {
         SplitAnswer::Part(extent) => {
@@ -83,7 +83,7 @@ fn split_off(n: u8, part: usize, out: &mut [u8]) -> usize {
     }
 }
 
-// An answer; of a record, a value from each of its three parts.
+// Prints an answer; for a record, a value from each of its three parts.
 fn show_answer(answer: Collected) {
     let dropped = match answer {
         Collected::Waiting { dropped } => {
@@ -114,7 +114,7 @@ fn lose(n: u8, part: usize) {
     print(b": lost\n");
 }
 
-// A part that is given to a collection; the collection after it.
+// Gives a part to a collection; returns the collection after it.
 fn give(collection: Collection, n: u8, part: usize) -> Collection {
     let mut out = [0u8; PAYLOAD];
     let length = split_off(n, part, &mut out);
@@ -124,7 +124,7 @@ fn give(collection: Collection, n: u8, part: usize) -> Collection {
     step.next
 }
 
-// Of record 1 the parts 0 and 2 are lost, and of record 2 part 1.
+// Parts 0 and 2 of record 1 are lost, and part 1 of record 2.
 fn send_parts(opened: Collection) {
     lose(1, 0);
     let mut collection = give(opened, 1, 1);

@@ -1,6 +1,6 @@
-// A record of each kind, made, split, collected and printed: the code beside each kind's page of
-// the reference; then records of which parts are lost.
-// What is printed is held to the file `stdout`, which tools/roundtrip.py writes from document 01
+// A record of each kind is made, split, collected and printed: the code on each kind's page of the
+// reference. Then come records of which some parts are lost.
+// The output is compared with the file `stdout`, which tools/roundtrip.py writes from document 01
 // alone.
 mod cross_trainer;
 mod indoor_bike;

@@ -106,8 +106,8 @@ fn show_part(part: usize, parts: usize, octets: &[u8]) {
     print(b"\n");
 }
 
-// Sends one part of a record, which here is to print it; how many parts there are, 0 where it is
-// refused.
+// Sends one part of a record, which here means printing it; returns the number of parts, or 0 if
+// it is refused.
 fn send(record: Record, part: usize, out: &mut [u8]) -> usize {
     match split(record, PAYLOAD, part, out) {
         SplitAnswer::Part(extent) => {
@@ -121,7 +121,7 @@ fn send(record: Record, part: usize, out: &mut [u8]) -> usize {
     }
 }
 
-// Sends a record: its parts from 0 on, as many as the answers say. No record has more than
+// Sends a record: its parts from 0 on, as many as the answers give. No record has more than
 // MOST_PARTS.
 fn send_parts(record: Record) {
     let mut space = [0u8; PAYLOAD];
@@ -133,7 +133,8 @@ fn send_parts(record: Record) {
     }
 }
 
-// Shows what a collection answers: nothing, while it waits for another part; whether it waits.
+// Shows a collection's answer, or nothing while it waits for another part; returns whether it
+// waits.
 fn show_answer(answer: Collected) -> bool {
     match answer {
         Collected::Waiting { dropped: _ } => true,
@@ -151,7 +152,7 @@ fn show_answer(answer: Collected) -> bool {
     }
 }
 
-// A part as it is received: its length, or 0 where there is no such part.
+// Receives a part; returns its length, or 0 if there is no such part.
 fn receive(record: Record, part: usize, out: &mut [u8]) -> usize {
     match split(record, PAYLOAD, part, out) {
         SplitAnswer::Part(extent) => extent.length,
@@ -176,7 +177,7 @@ fn collect_parts(record: Record, opened: Collection) {
 }
 
 // Splits a record at payload 20, collects its parts, and prints the parts and the record that
-// comes out; or the number of what is refused.
+// comes out, or the number of a refusal.
 pub(crate) fn split_and_collect(record: Record) {
     let opened = open(record.kind, Told::Open);
     let answer = opened.answer;

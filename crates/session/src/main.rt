@@ -1,6 +1,6 @@
-// Two clients of a treadmill's control point, call by call, in the code that a maker's console
-// would have. What is printed is held to the file `stdout`,
-// which tools/session.py writes from document 01 alone.
+// Two clients use a treadmill's control point, call by call, in the code that a maker's console
+// would have. The output is compared with the file `stdout`, which tools/session.py writes from
+// document 01 alone.
 mod show;
 
 use crate::show::confirm;
@@ -87,8 +87,8 @@ fn begin(opened: Console) -> Console {
     confirm(console, 0)
 }
 
-// Client 0 starts the machine. What client 1 writes is refused, 20, until that response is
-// confirmed; then another holds control: 04, and 05.
+// Client 0 starts the machine. What client 1 writes is refused with 20 until that response is
+// confirmed; after that it is answered 04 and 05, since client 0 holds control.
 fn start(begun: Console) -> Console {
     let mut console = write(begun, 0, &START_OR_RESUME);
     state(b"now: ", console);
@@ -102,8 +102,8 @@ fn start(begun: Console) -> Console {
     confirm(console, 1)
 }
 
-// Client 0 starts what runs already, which is answered 04; pauses; resumes; sets a resistance,
-// which this machine does not have: 02; and stops.
+// Client 0 starts the machine again, which is answered 04, since it runs already; pauses; resumes;
+// sets a resistance, which is answered 02, since this machine does not have it; and stops.
 fn drive(started: Console) -> Console {
     let mut console = write(started, 0, &START_OR_RESUME);
     console = confirm(console, 0);
@@ -120,7 +120,7 @@ fn drive(started: Console) -> Console {
     confirm(console, 0)
 }
 
-// Client 0 goes, which frees control: client 1 takes it, and resets the machine.
+// Client 0 disconnects, which frees control: client 1 takes it, and resets the machine.
 fn hand_over(driven: Console) -> Console {
     let mut console = disconnect(driven, 0);
     state(b"now: ", console);

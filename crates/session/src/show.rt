@@ -1,5 +1,5 @@
-// The calls of the control point, each made and printed as a line: a console goes in, and the
-// console after the call comes back. And the state of its machine.
+// The calls of the control point, each made and printed as a line: a function takes a console and
+// returns the console after the call. `state` prints the state of its machine.
 use output::first;
 use output::print;
 use output::print_number;
@@ -16,7 +16,7 @@ use service::control::machine::Who;
 // The op code that stores the speed.
 const SET_SPEED: u8 = 0x02;
 
-// A client writes an op code and its parameter. A console on the air sends what is printed here.
+// A client writes an op code and its parameter. A real console sends what is printed here.
 pub(crate) fn write(console: Console, client: u8, octets: &[u8]) -> Console {
     print_number(b"client ", client as u64);
     print(b" writes");
@@ -38,7 +38,7 @@ pub(crate) fn write(console: Console, client: u8, octets: &[u8]) -> Console {
     reply.console
 }
 
-// Octets behind their label; nothing where there are none.
+// A label, then octets; nothing if there are none.
 fn send(label: &[u8], counted: Counted) {
     if counted.count == 0 {
         return;

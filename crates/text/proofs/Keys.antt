@@ -1,4 +1,4 @@
--- Rows of a table that a function was mapped over, and keys that were padded. Assumes nothing.
+-- Lists that a function was mapped over, and padded keys. Assumes nothing.
 use Prim.Native.Nat.{ℕ, zero, suc, _-_, _<_, _≤_}
 use Prim.Native.String.{String}
 use mathlib.Core.Path.{_≡_, refl}
@@ -11,7 +11,7 @@ use Rattle.text.specs.declared.names.Key.{Key}
 use Rattle.text.specs.Names.{names, name, bare, padded}
 use Rattle.text.specs.Text.{ascii}
 
--- an element within the length, whatever is read past the end
+-- an element of a mapped list within its length, whatever the defaults
 pub mapped : {A B : Type 0} (f : A → B) (l : List A) (i : ℕ) (d : B) (e : A) → i < length l → getD (map f l) i d ≡ f (getD l i e)
 mapped f [] i d e h = absurd (not-suc-le-zero h)
 mapped f (x ∷ l) zero d e h = refl

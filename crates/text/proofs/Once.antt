@@ -1,4 +1,4 @@
--- No second reply and no second content of what is lent meets a contract: for each public function, over the contract itself.
+-- At most one reply and one content of the lent buffer satisfy each public function's contract, as the prover reads it.
 use Prim.Native.Nat.{ℕ}
 use mathlib.Core.Path.{_≡_, sym, _∙_}
 use mathlib.Core.List.{List}
@@ -13,7 +13,7 @@ use Rattle.text.proofs.text.put_hex.Reads as put-hex
 use Rattle.text.proofs.names.put_name.Reads as put-name
 use Rattle.text.proofs.names.put_field.Reads as put-field
 
--- one text at one place leaves one position and one content
+-- the text and the position determine the next position and the buffer's content
 pub wrote-once : (out : List ℕ) (at : ℕ) (text left left′ : List ℕ) (next next′ : ℕ) → Wrote out at text left next → Wrote out at text left′ next′ →
     (next ≡ next′) × (left ≡ left′)
 wrote-once out at text left left′ next next′ p q = (p .place ∙ sym (q .place), p .octets ∙ sym (q .octets))

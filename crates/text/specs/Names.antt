@@ -14,7 +14,7 @@ names =
     "metabolic_equivalent=" ∷ "elapsed=" ∷ "remaining=" ∷ "belt_force=" ∷ "power_output=" ∷ "step_rate=" ∷ "average_step_rate=" ∷ "stride_count=" ∷
     "resistance=" ∷ "power=" ∷ "average_power=" ∷ "average_stroke_rate=" ∷ "cadence=" ∷ "average_cadence=" ∷ []
 
--- the key of a field as octets; none where there is no such field
+-- the key of a field as octets; empty if there is no such field
 unfoldable pub name : ℕ → List ℕ
 unfolding names
 name field = ascii (getD names field "")
@@ -23,6 +23,6 @@ name field = ascii (getD names field "")
 unfoldable pub bare : ℕ → List ℕ
 bare field = take (length (name field) - 1) (name field)
 
--- a key as a row of the code's table: its length, and its octets with spaces behind, 21 in all
+-- a key as a row of the code's table: its length, and its octets padded with spaces to 21
 unfoldable pub padded : String → Key
 padded s = record { 0 = length (ascii s); 1 = ascii s ++ replicate (21 - length (ascii s)) 32 }

@@ -15,7 +15,7 @@ abbrev pub ascii : String → List ℕ
 ascii [] = L.[]
 ascii (c ∷ s) = L._∷_ (code c) (ascii s)
 
--- the digits of n, with fuel for as many as it may have
+-- the decimal digits of n; the first argument is the recursion's fuel
 abbrev pub digits : ℕ → ℕ → List ℕ
 digits zero n = L.[]
 digits (suc k) n =
@@ -42,15 +42,16 @@ hex b = L._∷_ (hex-digit (b / 16)) (L._∷_ (hex-digit b) L.[])
 unfoldable pub line : List ℕ → List ℕ → List ℕ
 line key value = key ++ value ++ (L._∷_ 10 L.[])
 
--- a buffer with a text put at a position; what passes the buffer's end is left out
+-- a buffer after a text is written at a position; what lies past the buffer's end is left out
 unfoldable pub written : List ℕ → ℕ → List ℕ → List ℕ
 written out at text = take (length out) (take at out ++ text ++ drop (at + length text) out)
 
--- the largest number of a usize, at which a position stays
+-- the largest usize, at which a position saturates
 abbrev pub top : ℕ
 top = 18446744073709551615
 
--- a text was put at a position of a buffer, and the next position is behind it; no buffer is longer than `top`
+-- a text was written at a position of a buffer, and `next` is the position after it; no buffer is longer than
+-- `top`
 pub record Wrote (out : List ℕ) (at : ℕ) (text : List ℕ) (out′ : List ℕ) (next : ℕ) : Type 0 where
   pub octets : out′ ≡ written out at text
   pub place : next ≡ min (at + length text) top

@@ -1,4 +1,4 @@
-// The keys of the listing: fixed byte strings, each with its `=`. They stand here and nowhere else.
+// The keys of the listing: fixed byte strings, each with its `=`. They are defined only here.
 use crate::text::put_bytes;
 ghost use mathlib.Core.Path.{_≡_};
 ghost use Prim.Native.Nat.{_≤_};
@@ -16,10 +16,10 @@ pub const DIRECTION: [u8; 10] = *b"direction=";
 
 pub const REFUSED: [u8; 8] = *b"refused=";
 
-// The key of a field: its length, and its octets, filled up with spaces.
+// The key of a field: its length, and its octets, padded with spaces.
 struct Key(usize, [u8; 21]);
 
-// By the number of the field.
+// Indexed by the number of the field.
 const KEYS: [Key; 31] = [
     Key(6, *b"speed=               "),
     Key(7, *b"floors=              "),
@@ -54,7 +54,7 @@ const KEYS: [Key; 31] = [
     Key(16, *b"average_cadence=     "),
 ];
 
-// The key of a field; no octets where there is no such field.
+// The key of a field; empty if there is no such field.
 fn key_of(field: usize) -> Key
     ensures { λ r. ⌜ r ≡ padded (getD names field "") ⌝ }
 {
@@ -64,7 +64,7 @@ fn key_of(field: usize) -> Key
     KEYS[field]
 }
 
-// The first n octets of a text.
+// Writes the first n octets of a text.
 fn put_first(out: &mut [u8], at: usize, text: &[u8], n: usize) -> usize
     requires { ⌜ n ≤ length (now text) ⌝ }
     ensures { λ r. ⌜ Wrote (now (out .entry)) at (take n (now (text .entry))) (now (out .exit)) r ⌝ }
@@ -81,7 +81,7 @@ pub fn put_name(out: &mut [u8], at: usize, field: usize) -> usize
     put_first(out, at, &text, n)
 }
 
-// The name of a field: its key without the `=`.
+// Writes the name of a field: its key without the `=`.
 pub fn put_field(out: &mut [u8], at: usize, field: usize) -> usize
     ensures { λ r. ⌜ Wrote (now (out .entry)) at (bare field) (now (out .exit)) r ⌝ }
 {

@@ -1,10 +1,10 @@
-// Text put into a lent buffer. What passes the buffer's end is left out, and the position goes on: so the same function measures a text.
+// Writing text into a lent buffer. What lies past the buffer's end is left out but counted, so the same functions also measure a text.
 ghost use mathlib.Core.Path.{_≡_};
 ghost use Prim.Native.Nat.{_+_, _%_};
 ghost use mathlib.Core.List.{[], _∷_};
 ghost use Rattle.text.specs.Text.{Wrote, decimal, hex-digit, hex, line};
 
-// The largest usize: a position that has come there stays.
+// The largest usize, at which the position saturates.
 const TOP: usize = 18446744073709551615;
 
 // The octet that ends a line.

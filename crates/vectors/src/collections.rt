@@ -1,5 +1,5 @@
 // What a collection answers, rule by rule. Most cases are of an indoor bike's average speed (flags 02), cadence (04) and average cadence (08);
-// flags with 01 are those of a part with More Data 1.
+// a part whose flags include 01 has More Data 1.
 use crate::lines::By;
 use crate::lines::run_lines;
 use crate::steps::after;
@@ -44,7 +44,7 @@ part 2, then 1 and 3 of the next record: 05 00 B4 00 / 03 00 E9 03 / 08 00 C5 09
     );
 }
 
-// A collection that is told the bits 1, 2 and 3.
+// A fixed collection that is told bits 1, 2 and 3.
 fn run_fixed() {
     run_lines(
         6,

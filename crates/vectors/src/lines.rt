@@ -15,7 +15,7 @@ pub(crate) enum By {
     Collecting(Told),
 }
 
-// The value of a hex digit; 16 of anything else.
+// The value of a hex digit; 16 for anything else.
 fn value(x: u8) -> u8 {
     if b'0' <= x && x <= b'9' {
         return x - b'0';
@@ -26,7 +26,7 @@ fn value(x: u8) -> u8 {
     16
 }
 
-// Puts one more hex digit behind those of the octets, and counts it; anything else is passed over.
+// Appends a hex digit to the octets, and counts it; anything else is skipped.
 fn put_digit(octets: &mut [u8; 32], digits: usize, x: u8) -> usize {
     let d = value(x);
     if digits < 64 {
@@ -50,7 +50,7 @@ fn begin(words: &[u8], kind: u8, by: By) -> Collection {
     }
 }
 
-// Goes on by the octets of so many digits.
+// Reads or collects the octets that the digits have given.
 fn go_on(collection: Collection, kind: u8, by: By, octets: &[u8; 32], digits: usize) -> Collection {
     match by {
         By::Reading => {

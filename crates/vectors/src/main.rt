@@ -1,5 +1,5 @@
-// The run cases of the record layer and the collector: records in parts and back, refusals, numbers, the Feature value, and collections. What is
-// printed is held to the file `stdout`, which tools/vectors.py writes from document 01 alone.
+// The run cases of the record layer and the collector: records in parts and back, refusals, numbers, the Feature value, and collections. The
+// output is compared with the file `stdout`, which tools/vectors.py writes from document 01 alone.
 mod collections;
 mod lines;
 mod plain;

@@ -3,7 +3,7 @@ use output::print;
 use output::print_number;
 use record::refusal::Refusal;
 
-// The octets of every buffer that is lent here; each part that is run is shorter.
+// The length of every buffer that is lent here; each part that is run is shorter.
 pub(crate) const LENT: usize = 64;
 
 // What a lent octet holds until it is written.
@@ -22,7 +22,7 @@ pub(crate) fn print_either(test: bool, yes: &[u8], no: &[u8]) {
     }
 }
 
-// The octets from a place up to another; all of them, where there are no such places.
+// The octets from one position up to another; all of them if these are out of range.
 pub(crate) fn between(text: &[u8], start: usize, end: usize) -> &[u8] {
     if start <= end {
         if end <= text.len() {
@@ -32,7 +32,7 @@ pub(crate) fn between(text: &[u8], start: usize, end: usize) -> &[u8] {
     text
 }
 
-// Whether every octet from a place on is as it was lent.
+// Whether every octet from a position on is as it was lent.
 pub(crate) fn is_untouched(buffer: &[u8], from: usize) -> bool {
     let mut i = from;
     while i < buffer.len() {

@@ -1,4 +1,4 @@
-// What is refused, by which number, and what is left as it was.
+// What is refused, with which number, and what stays unchanged.
 use crate::lines::By;
 use crate::lines::run_lines;
 use crate::printing::LENT;
@@ -31,7 +31,7 @@ use record::refusal::Refusal;
 use record::split::SplitAnswer;
 use record::split::split;
 
-// A refusal of a notification, and whether the numbers held are as they were.
+// A refusal of a notification, and whether the numbers held are unchanged.
 fn print_unread(refusal: Refusal, held: &[u32; 31]) {
     let before = [7u32; 31];
     print_refusal(refusal);
@@ -42,7 +42,7 @@ fn print_unread(refusal: Refusal, held: &[u32; 31]) {
     );
 }
 
-// What a notification says of itself.
+// What a notification's flags give.
 fn print_said(part: Part) {
     print_number(b" groups=", part.groups as u64);
     print_number(b" direction=", part.direction as u64);
@@ -57,7 +57,7 @@ fn print_values(r: Record) {
     print(b"\n");
 }
 
-// Reads a notification where every number held is 7.
+// Reads a notification when every number held is 7.
 pub(crate) fn read_case(kind: u8, notification: &[u8]) {
     print_number(b": kind=", kind as u64);
     print_number(b" length=", notification.len() as u64);
@@ -106,7 +106,7 @@ both: 44 E0 C4 09 B4 00 FA 00 01 02 03
     );
 }
 
-// Splits into the first octets of a buffer.
+// Splits into the first `room` octets of a buffer, or into all of it if it has fewer.
 fn split_into(
     r: Record,
     payload: usize,
@@ -176,7 +176,7 @@ fn own_case(
     );
 }
 
-// The same of a treadmill, with one field changed.
+// The same for a treadmill, with one field changed.
 fn changed_case(words: &[u8], groups: u32, field: u8, x: u32) {
     let mut numbers = numbers_of(sample(Values::Own, 1, groups, 0));
     put_number(&mut numbers, field, x);

@@ -1,4 +1,4 @@
-// Records in parts, each part read again.
+// Records split into parts, and each part read back.
 use crate::printing::LENT;
 use crate::printing::UNTOUCHED;
 use crate::printing::print_either;
@@ -21,7 +21,7 @@ use record::split::Extent;
 use record::split::SplitAnswer;
 use record::split::split;
 
-// Where a run stops: nothing was read.
+// What a run stops with on a refusal: nothing was read.
 fn nothing(refusal: Refusal) -> Part {
     print_refusal(refusal);
     print(b"\n");
@@ -107,7 +107,7 @@ fn run_record(r: Record, payload: usize) {
     }
 }
 
-// Runs the record of a kind with one group, where the kind has it.
+// Runs the record of a kind with one group, if the kind has it.
 fn run_alone(values: Values, kind: u8, group: u32, direction: u8) {
     if listed(kind) & group != 0 {
         run_record(sample(values, kind, group, direction), 20);

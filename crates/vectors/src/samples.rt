@@ -123,7 +123,7 @@ pub(crate) fn is_present(row: Row, groups: u32) -> bool {
     row.0 == 0 || has(groups, row.0)
 }
 
-// Puts the value of a row, where its group is present.
+// Sets the value of a row's field, if its group is present.
 fn fill_row(values: Values, row: Row, groups: u32, own: &[u32; 31], numbers: &mut [u32; 31]) {
     if is_present(row, groups) {
         put_number(numbers, row.1, value(values, row, own));

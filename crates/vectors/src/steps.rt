@@ -1,4 +1,4 @@
-// A collection, opened and given notifications, each with what is answered.
+// A collection is opened and given notifications; each answer is printed.
 use crate::printing::print_either;
 use crate::printing::print_refusal;
 use crate::runs::print_record;
@@ -38,7 +38,7 @@ fn print_opening(answer: Opening) {
     }
 }
 
-// Opens a collection; the first line of a case.
+// Opens a collection, and prints the first line of a case.
 pub(crate) fn opened(words: &[u8], kind: u8, told: Told) -> Collection {
     print(words);
     print_number(b": kind=", kind as u64);
@@ -49,7 +49,7 @@ pub(crate) fn opened(words: &[u8], kind: u8, told: Told) -> Collection {
     opened.collection
 }
 
-// The number of a row's field, where its group is present.
+// The number of a row's field, if its group is present.
 fn print_row(row: Row, groups: u32, numbers: &[u32; 31]) {
     if is_present(row, groups) {
         print_number(b" ", number_at(numbers, row.1) as u64);
@@ -91,7 +91,8 @@ fn print_collected(answer: Collected) {
     print_either(dropped, b" dropped=yes\n", b" dropped=no\n");
 }
 
-// Gives a collection a notification; the next line of a case, with at most twenty of the octets.
+// Gives a collection a notification, and prints the next line of a case, with at most twenty
+// of the octets.
 pub(crate) fn after(collection: Collection, notification: &[u8]) -> Collection {
     print_number(b"length=", notification.len() as u64);
     print(b":");

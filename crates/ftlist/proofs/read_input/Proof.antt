@@ -1,5 +1,5 @@
--- `read_input` meets its contract. The invariant: what is filled lies within the buffer, which keeps its length. The measure is what is left of the
--- buffer. Assumes nothing.
+-- `read_input` meets its contract. The invariant: the filled part lies within the buffer, whose length stays the same. The measure is what is left
+-- of the buffer. Assumes nothing.
 use Prim.Native.Nat.{_≤_, _-_}
 use mathlib.Core.Path.{_≡_}
 use native.Mathlib.Omega.{arith}

@@ -1,5 +1,5 @@
--- `show_listing` is safe and ends. The invariant: the lines have the room that a step's lines want. The measure is the number of steps that the walk
--- has yet to take, at most. Assumes nothing.
+-- `show_listing` is safe and ends. The invariant: the buffer has room for a step's lines. The measure is the number of steps that the walk has yet
+-- to take, at most. Assumes nothing.
 use mathlib.Core.Path.{_≡_}
 use native.Mathlib.Omega.{arith}
 use borrow.Author.Needs.{needs}
@@ -16,7 +16,7 @@ Inv-loop capture lines₀ walk₀ lines walk = length lines ≡ longest
 abbrev μ-loop : tie.MeasureT-loop
 μ-loop capture lines₀ walk₀ lines walk = remaining walk capture
 
--- what a step puts fits: its lines are no longer than the buffer
+-- what a step writes fits: its lines are no longer than the buffer
 fits : tie.Need-slice-reshare-prefix-show Inv-loop μ-loop
 fits c =
     let p = c .before .before in

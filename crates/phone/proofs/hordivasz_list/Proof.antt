@@ -1,4 +1,4 @@
--- `hordivasz_list` meets its contract: what the listing answers, handed out. Assumes nothing.
+-- `hordivasz_list` meets its contract: it passes on the listing's answer. Assumes nothing.
 use Prim.Native.Nat.{ℕ}
 use mathlib.Core.Path.{ap, _∙_}
 use borrow.Author.Needs.{needs}

@@ -1,4 +1,4 @@
--- `hordivasz_split` meets its contract: what splitting answers, handed out. Assumes nothing.
+-- `hordivasz_split` meets its contract: it passes on the splitter's answer. Assumes nothing.
 use mathlib.Core.Path.{ap, _∙_}
 use borrow.Author.Needs.{needs}
 use denote.Ref.{now}

@@ -1,4 +1,4 @@
--- `listed` meets its contract: the length goes out, or the number of the refusal. Assumes nothing.
+-- `listed` meets its contract: it stores the length, or returns the refusal. Assumes nothing.
 use mathlib.Core.Path.{refl}
 use borrow.Author.Needs.{needs}
 use Rattle.phone.proofs.listed.Statement.{statement}

@@ -1,4 +1,4 @@
--- `main` is safe and ends: the measure is the number of turns left. Assumes nothing.
+-- `main` is safe and ends: the measure is how many turns are left. Assumes nothing.
 use borrow.Author.Needs.{needs}
 use Rattle.replay.proofs.main.Statement.{statement}
 use Rattle.replay.proofs.main.Tie as tie

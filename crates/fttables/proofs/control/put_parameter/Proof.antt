@@ -1,4 +1,4 @@
--- `put_parameter` is safe and ends: the measure is the number of numbers left. Assumes nothing.
+-- `put_parameter` is safe and ends: the measure is how many numbers are left. Assumes nothing.
 use Prim.Native.Nat.{_-_}
 use mathlib.Core.Path.{_≡_}
 use lib.ListN.{length}

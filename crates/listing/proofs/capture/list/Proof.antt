@@ -1,4 +1,4 @@
--- `list` meets its contract: measured first, then written where it fits. Assumes nothing.
+-- `list` meets its contract: measured first, then written if it fits. Assumes nothing.
 use Prim.Native.Nat.{ℕ}
 use mathlib.Core.List.{List}
 use native.Mathlib.Omega.{arith}

@@ -1,4 +1,4 @@
--- `list_length` meets its contract: a position behind the text, which began at 0. Assumes nothing.
+-- `list_length` meets its contract: the position after a text that began at 0. Assumes nothing.
 use Prim.Native.Nat.{ℕ, min}
 use mathlib.Core.Path.{ap, _∙_}
 use native.Mathlib.Nat.{zero-add}

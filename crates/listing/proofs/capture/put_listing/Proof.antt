@@ -1,5 +1,5 @@
--- `put_listing` meets its contract. The invariant: all is written but what the walk has yet to write. The measure is the number of steps that it has
--- yet to take, at most. Assumes nothing.
+-- `put_listing` meets its contract. The invariant: all is written except what the walk has yet to write. The measure is the number of steps that it
+-- has yet to take, at most. Assumes nothing.
 use native.Mathlib.Omega.{arith}
 use borrow.Author.Needs.{needs}
 use borrow.Author.Tests.{not-true, not-false}

@@ -1,4 +1,4 @@
--- `step` meets its contract: a walk that has ended, its beginning, and what stands behind the kind. Assumes nothing.
+-- `step` meets its contract: a walk that has ended, its beginning, and what follows the kind. Assumes nothing.
 use native.Mathlib.Omega.{arith}
 use borrow.Author.Needs.{needs}
 use Rattle.listing.proofs.Steps.{over, at-first, behind-kind, stopped}

@@ -1,4 +1,4 @@
--- `handed_out` meets its contract: both numbers go out, or the number of the refusal. Assumes nothing.
+-- `handed_out` meets its contract: it stores both numbers, or returns the refusal. Assumes nothing.
 use mathlib.Core.Path.{refl}
 use borrow.Author.Needs.{needs}
 use Rattle.phone.proofs.split.handed_out.Statement.{statement}

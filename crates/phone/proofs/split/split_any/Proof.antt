@@ -12,7 +12,7 @@ use Rattle.phone.specs.Host.{split-answer}
 use Rattle.phone.proofs.split.split_any.Statement.{statement}
 use Rattle.phone.proofs.split.split_any.Tie as tie
 
--- no kind is above an octet
+-- a number above 255 is no kind
 too-high : (kind : ℕ) → 255 < kind → known kind ≡ false
 too-high kind h = at-most (leb 1 kind) (leb kind 6) refl
   where

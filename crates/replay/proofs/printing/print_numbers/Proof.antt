@@ -1,4 +1,4 @@
--- `print_numbers` is safe and ends: the measure is the number of places left. Assumes nothing.
+-- `print_numbers` is safe and ends: the measure is how many numbers are left. Assumes nothing.
 use Prim.Native.Nat.{_-_}
 use borrow.Author.Needs.{needs}
 use Rattle.replay.proofs.printing.print_numbers.Statement.{statement}

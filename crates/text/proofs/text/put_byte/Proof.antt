@@ -1,4 +1,4 @@
--- `put_byte` meets its contract: within the buffer a store is the text of one octet, and past its end nothing is. Assumes nothing.
+-- `put_byte` meets its contract: within the buffer the octet is stored, and past its end nothing is. Assumes nothing.
 use borrow.Author.Needs.{needs}
 use native.Mathlib.Omega.{arith}
 use mathlib.Core.Path.{_∙_, sym}

@@ -1,4 +1,4 @@
--- `put_bytes` meets its contract. The invariant: the first i octets of the text are written. The measure is what is left of it. Assumes nothing.
+-- `put_bytes` meets its contract. The invariant: the first i octets of the text are written. The measure: the octets left. Assumes nothing.
 use Prim.Native.Nat.{_≤_, _-_}
 use mathlib.Core.Path.{_≡_, refl}
 use native.Mathlib.Omega.{arith}

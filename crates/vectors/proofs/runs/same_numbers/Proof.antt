@@ -1,4 +1,4 @@
--- `same_numbers` is safe and ends: the measure is the number of places left. Assumes nothing.
+-- `same_numbers` is safe and ends: the measure is how many numbers are left. Assumes nothing.
 use Prim.Native.Nat.{_-_}
 use borrow.Author.Needs.{needs}
 use Rattle.vectors.proofs.runs.same_numbers.Statement.{statement}
