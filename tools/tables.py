@@ -7,6 +7,7 @@ import sys
 
 sys.dont_write_bytecode = True
 
+from header import header
 from kinds import all_kinds, page, splitting, widths
 from markdown import table
 from vectors import KINDS, OCTETS
@@ -236,3 +237,4 @@ if __name__ == "__main__":
     widths()
     splitting()
     keys()
+    header(dict(REFUSALS))

@@ -33,6 +33,15 @@ def tables():
     return found
 
 
+def header():
+    """The header for C: what fttables prints behind its heading, to the end."""
+    text = read("crates/fttables/stdout")
+    heading = "\n# hordivasz_layout.h\n\n"
+    if text.count(heading) != 1:
+        raise Fault("fttables prints no header for C")
+    return text.split(heading)[1]
+
+
 def rows(table):
     """The rows of a table in Markdown, each a dict from a column's name to the cell."""
     lines = [[cell.strip() for cell in line.strip().strip("|").split("|")] for line in table.splitlines()]

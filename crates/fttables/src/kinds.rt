@@ -21,7 +21,7 @@ use text::names::put_field;
 // One more than the last field.
 const FIELDS: u8 = 31;
 
-fn print_kind(kind: u8) {
+pub(crate) fn print_kind(kind: u8) {
     let mut text = [0u8; 20];
     let out: &mut [u8] = &mut text;
     let n = put_kind(out, 0, kind);
@@ -29,7 +29,7 @@ fn print_kind(kind: u8) {
 }
 
 // For a record of the kind with all its groups, split at a payload: the length of its first part, and the number of parts.
-fn extent_of(kind: u8, payload: usize) -> Extent {
+pub(crate) fn extent_of(kind: u8, payload: usize) -> Extent {
     let numbers = [0u32; 31];
     let mut space = [0u8; GREATEST_PAYLOAD];
     let out: &mut [u8] = &mut space;

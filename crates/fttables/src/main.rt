@@ -4,6 +4,7 @@ mod calls;
 mod clients;
 mod control;
 mod feature;
+mod header;
 mod keys;
 mod kinds;
 mod machine;
@@ -18,6 +19,7 @@ mod words;
 use crate::answers::print_answers;
 use crate::control::put_control;
 use crate::feature::put_feature;
+use crate::header::print_header;
 use crate::keys::print_keys;
 use crate::kinds::print_fields;
 use crate::kinds::print_kinds;
@@ -82,4 +84,5 @@ fn main() {
     print_widths();
     print_splitting();
     print_keys();
+    print_header();
 }

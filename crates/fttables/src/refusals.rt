@@ -11,10 +11,10 @@ use record::refusal::Refusal;
 use text::text::put_bytes;
 use text::text::put_decimal;
 
-const REFUSALS: u8 = 21;
+pub(crate) const REFUSALS: u8 = 21;
 
 // The refusals in the order of document 01's table.
-fn refusal_at(which: u8) -> Refusal {
+pub(crate) fn refusal_at(which: u8) -> Refusal {
     match which {
         0 => Refusal::ClientAboveThree,
         1 => Refusal::UnknownKind,
@@ -41,7 +41,7 @@ fn refusal_at(which: u8) -> Refusal {
 }
 
 // "given exactly when"
-fn put_when(out: &mut [u8], at: usize, which: u8) -> usize {
+pub(crate) fn put_when(out: &mut [u8], at: usize, which: u8) -> usize {
     put_word(
         out,
         at,
