@@ -1,6 +1,6 @@
 """Makes a table's repeated cells one: where rows follow each other that share their first cells, such a cell stands once, as high as its rows.
 
-In a table of fields (its first columns are "present when" or "bit", then "group") the first two columns are merged, in one of parameters the op codes. In other
+In a table of fields (its first columns are `present when` or `bit`, then `group`) the first two columns are merged, in one of parameters the op codes. In other
 tables only cells of words are: numbers in rows that follow each other may be equal by chance. A last column of which calls give a refusal, or of what it leaves,
 is merged too."""
 import re
