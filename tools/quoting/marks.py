@@ -21,10 +21,10 @@ class Block:
 
 
 class Quotation:
-    """A text in quotation marks, and where it begins. It is not closed where no mark ends it in its block."""
+    """A text in quotation marks, the line on which it begins, and what stands before it in its block. It is not closed where no mark ends it there."""
 
-    def __init__(self, path, line, words, closed=True):
-        self.path, self.line, self.words, self.closed = path, line, words, closed
+    def __init__(self, block, start, end, closed=True):
+        self.line, self.words, self.before, self.closed = block.line(start), block.text[start + 1:end], block.text[:start], closed
 
 
 def masked(text):
@@ -42,7 +42,7 @@ def opens(text, at, before):
     return (at == 0 or text[at - 1] in BEFORE) and bool(BEHIND.match(text, at + 1))
 
 
-def quotations(path, block):
+def quotations(block):
     """The quotations of a block, the outermost alone."""
     text = masked(block.text)
     depth, start, before = 0, 0, True
@@ -53,10 +53,10 @@ def quotations(path, block):
             start = at if depth == 0 else start
             depth += 1
         elif depth == 0:
-            yield Quotation(path, block.line(at), block.text[max(0, at - 40):at], False)
+            yield Quotation(block, at, at + 40, False)
         else:
             depth -= 1
             if depth == 0:
-                yield Quotation(path, block.line(start), block.text[start + 1:at])
+                yield Quotation(block, start, at)
     if depth:
-        yield Quotation(path, block.line(start), block.text[start + 1:start + 41], False)
+        yield Quotation(block, start, start + 41, False)
