@@ -69,14 +69,15 @@ def markdown(text):
         fence = line.lstrip().startswith("```")
         code = fenced or fence or blank and line.startswith("    ")
         fenced ^= fence
-        begins = re.match(r"\s*([-*#>|]|\d+\.) ?", line)
+        line = line if code else re.sub(r"^> ?", "", line)
+        begins = re.match(r"\s*([-*] |#+ |\d+\. |\|)", line)
         if block and (code or begins or not line.strip()):
             yield Block(block)
             block = []
         if not code and line.startswith("|"):
             yield from (Block([(number, cell)]) for cell in cells(line))
         elif not code and line.strip():
-            block.append((number, re.sub(r"^\s*(?:[-*#>]+|\d+\.) ", "", line).strip()))
+            block.append((number, re.sub(r"^\s*(?:[-*]|#+|\d+\.) ", "", line).strip()))
         blank = not line.strip() or code
     if block:
         yield Block(block)
