@@ -165,7 +165,8 @@ def kind_cases(kind):
 # The control point, sections 4.8 to 4.10.
 
 
-# "01 gives 01; 07 gives 04; 08 gives 02; 02 to 06 give op code plus 3, 09 to 12 op code plus 1, 14 gives 15. 00 gives none."
+# "01 gives 01; 07 gives 04; 08 gives 02 and its parameter; 02 to 06 give op code plus 3, 09 to 12 op code plus 1, 14 gives 15, each with the
+# parameter. 00 gives none."
 def status(sent):
     op = sent[0]
     if op == 0x00:

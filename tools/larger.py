@@ -8,9 +8,11 @@ import time
 
 from edits import KEYWORDS, PRINTING, RELYING, body, closed, tokens_of
 from proving import short, told
+from reporting import row, write
 
 ASSIGN = {"=", "+=", "-="}
 EACH = 8  # how many of each rule are judged
+RULES = ["a statement left out", "two arguments exchanged", "a stale value", "a turn left out", "two early returns exchanged"]
 
 
 class Larger:
@@ -132,7 +134,7 @@ def returns(text, tokens):
 
 def larger_sites(source):
     """All places, by rule."""
-    found = {"a statement left out": [], "two arguments exchanged": [], "a stale value": [], "a turn left out": [], "two early returns exchanged": []}
+    found = {rule: [] for rule in RULES}
     for file in source.files:
         if file.startswith(PRINTING + "/"):
             continue
@@ -171,9 +173,7 @@ def try_larger(copy, source, asked):
             print(f"{rule}: {site.place} `{short(site.old)}` -> `{short(new)}`: {verdict} {where} ({time.time() - began:.0f} s)", flush=True)
             if verdict != "no program":
                 judged += 1
-                rows.append(f"| {rule} | `{site.place}` | `{short(site.old)}` → `{short(new)}` | {told(verdict, where)} |")
+                rows.append(row(rule, f"`{site.place}`", f"`{short(site.old)}` → `{short(new)}`", told(verdict, where)))
     print(f"seed {asked.seed}: " + ", ".join(f"{n} {verdict}" for verdict, n in sorted(tally.items())))
-    if asked.report:
-        with open(asked.report, "w") as out:
-            out.write("| rule | place | edit | first refused at |\n|---|---|---|---|\n" + "\n".join(rows) + "\n")
+    write(asked, f"The sample of {EACH * len(RULES)} edits that are no single token", [("", ["rule", "place", "edit", "first refused at"], rows)])
     return tally.keys() <= {"refused", "no program"}

@@ -18,7 +18,7 @@ TARGETS = {0, 1, 3}
 FEATURES = {0, 2, 3, 12, 15}
 ALLOWED = {"speed": (100, 2000), "inclination": (-30, 150), "resistance": (0, 0), "power": (0, 500), "heart rate": (0, 0)}
 
-# The widths of each op code's parameter. Of spin down document 01 says that "its op code is answered 'not supported'".
+# The widths of each op code's parameter. Of spin down document 01 says: "its op code is answered "not supported"".
 PARAMETERS = {op: parameter(name) for op, name in enumerate(words(OP_CODES, ";")) if op != 0x13}
 
 ON = "turns indications on"

@@ -12,7 +12,7 @@
     --copy DIR     the copy to work in (target/strength) --only WORD   the wrong programs, twins or rules of --larger with this word
     --skip WORDS   the sample leaves out files with one of these words in their name (a comma between two)
     --run          for each twin, also a program whose output changes
-    --report FILE  the table, in Markdown
+    --report FILE  writes the rows to this file of docs/strength/, whole
 
 An edit is made in a copy of the repository and checked there by `rt dev`, and the file is restored. `refused`: the prover does not prove the code.
 `no program`: the compiler rejects the text; the edit shows nothing, and another is drawn. `survived`: the crate is still proved, and so is every
@@ -33,24 +33,36 @@ sys.dont_write_bytecode = True
 from edits import Source, constant_sites, full_name, region, sites_of, untried, wrong_programs
 from larger import try_larger
 from proving import ROOT, Copy, short, told
+from reporting import command, row, write
 from twins import try_twins
 
 SEED = 20260101
 COUNT = 60
 
 
+def sites(source, asked):
+    """The places that are tried, in the order of the code, and how many of them are judged: all where that is none."""
+    if asked.constants:
+        return constant_sites(source), None
+    skip = [word for word in asked.skip.split(",") if word]
+    return [site for file in source.files if not any(word in file for word in skip) for site in sites_of(source, file)], asked.n
+
+
+def title(asked):
+    """The heading of the report of a sample."""
+    if asked.constants:
+        return "The value of each constant"
+    return f"The sample of {asked.n}" + (", without the tables: " + asked.skip.replace(",", ", ") if asked.skip else "")
+
+
 def sample(copy, asked):
     """A random sample, with one candidate for each place; or, for each constant, the first candidate that is a program."""
-    source = Source(os.path.join(ROOT, "crates"))
     draw = random.Random(asked.seed)
-    if asked.constants:
-        sites, count = constant_sites(source), None
-    else:
-        skip = [word for word in asked.skip.split(",") if word]
-        sites, count = [site for file in source.files if not any(word in file for word in skip) for site in sites_of(source, file)], asked.n
-        draw.shuffle(sites)
+    places, count = sites(Source(os.path.join(ROOT, "crates")), asked)
+    if not asked.constants:
+        draw.shuffle(places)
     tally, rows = {}, []
-    for site in sites:
+    for site in places:
         if len(rows) == count:
             break
         for new in site.candidates if asked.constants else [draw.choice(site.candidates)]:
@@ -61,23 +73,22 @@ def sample(copy, asked):
             print(f"{number} {site.place} `{site.shown}` {site.old} -> {new or '(nothing)'}: {verdict} {where} "
                   f"({time.time() - began:.0f} s)", flush=True)
             if verdict != "no program":
-                rows.append(f"| {number} | `{site.place}` | `{short(site.shown)}` | `{short(site.old)}` → `{short(new)}` | {told(verdict, where)} |")
+                rows.append(row(number, f"`{site.place}`", f"`{short(site.shown)}`", f"`{short(site.old)}` → `{short(new)}`", told(verdict, where)))
                 break
-    print(f"{len(sites)} places, seed {asked.seed}: " + ", ".join(f"{n} {verdict}" for verdict, n in sorted(tally.items())))
-    if asked.report:
-        with open(asked.report, "w") as out:
-            out.write("| no. | place | line | edit | first refused at |\n|---|---|---|---|---|\n" + "\n".join(rows) + "\n")
+    print(f"{len(places)} places, seed {asked.seed}: " + ", ".join(f"{n} {verdict}" for verdict, n in sorted(tally.items())))
+    write(asked, title(asked), [("", ["no.", "place", "line", "edit", "first refused at"], rows)])
     return tally.keys() <= {"refused", "no program"}
 
 
-def wrong(copy, only, report):
+def wrong(copy, asked):
+    """The wrong programs of tools/wrong.txt."""
     programs = wrong_programs(os.path.join(ROOT, "tools", "wrong.txt"))
     source = Source(os.path.join(ROOT, "crates"))
     for name in untried(source, programs):
         print(f"{name}: fewer than two wrong programs")
     tally, rows = {}, []
     for number, program in enumerate(programs, 1):
-        if only and only not in program.file + " " + program.function:
+        if asked.only and asked.only not in program.file + " " + program.function:
             continue
         start = region(source.text[program.file], program.place or program.function, program.old)
         began = time.time()
@@ -85,15 +96,14 @@ def wrong(copy, only, report):
         tally[verdict] = tally.get(verdict, 0) + 1
         name = full_name(source, program)
         print(f"{number} {name}: {program.words}: {verdict} {where} ({time.time() - began:.0f} s)", flush=True)
-        rows.append(f"| `{name}` | {program.words} | {told(verdict, where)} |")
+        rows.append(row(f"`{name}`", program.words, told(verdict, where)))
     print(", ".join(f"{n} {verdict}" for verdict, n in sorted(tally.items())))
-    if report:
-        with open(report, "w") as out:
-            out.write("| function | wrong program | first refused at |\n|---|---|---|\n" + "\n".join(rows) + "\n")
+    write(asked, "The wrong programs of tools/wrong.txt", [("", ["function", "wrong program", "first refused at"], rows)])
     return tally.keys() <= {"refused"}
 
 
-def main():
+def arguments():
+    """What is asked for, with the command that asks for it."""
     words = argparse.ArgumentParser(description=__doc__, formatter_class=argparse.RawDescriptionHelpFormatter)
     words.add_argument("-n", type=int, default=COUNT)
     words.add_argument("--seed", type=int, default=SEED)
@@ -108,20 +118,24 @@ def main():
     words.add_argument("--copy", default=os.path.join(ROOT, "target", "strength"))
     words.add_argument("--report")
     asked = words.parse_args()
+    asked.command = command(asked, words.get_default)
+    return asked
+
+
+def main():
+    asked = arguments()
     if asked.list:
-        source = Source(os.path.join(ROOT, "crates"))
-        for file in source.files:
-            for site in sites_of(source, file):
-                print(f"{site.place} {site.old} -> {' '.join(c or '(nothing)' for c in site.candidates)}")
+        for site in sites(Source(os.path.join(ROOT, "crates")), asked)[0]:
+            print(f"{site.place} {site.old} -> {' '.join(c or '(nothing)' for c in site.candidates)}")
         return
     copy = Copy(os.path.abspath(asked.copy))
     if asked.larger:
         sys.exit(0 if try_larger(copy, Source(os.path.join(ROOT, "crates")), asked) else 1)
     if asked.twins:
-        sys.exit(0 if try_twins(copy, asked.only, asked.run, asked.report) else 1)
+        sys.exit(0 if try_twins(copy, asked) else 1)
     copy.warm()
     if asked.wrong:
-        good = wrong(copy, asked.only, asked.report)
+        good = wrong(copy, asked)
     else:
         good = sample(copy, asked)
     copy.warm()

@@ -70,7 +70,7 @@ ORDERS = [
     ("confirm", [10, 17, 21]),
     # "The library call itself refuses only with 14"
     ("listing a capture", [14]),
-    # "36, then 11, are judged first and end the listing, 37 ends it where met"; "it collects openly", and a notification that is there whole "prints
+    # "36, then 11, are judged first and end the listing, 37 ends it where met"; "It collects openly.", and a notification that is there whole "prints
     # `refused=` and goes on": 30 to 32
     ("a line of a listing", [36, 11, 37, 30, 31, 32]),
 ]
@@ -137,7 +137,7 @@ def status(op, octets):
 
 
 def op_code(op, name):
-    """The cells after an op code's name. Of spin down's, document 01 says only that it "is answered 'not supported'": "result 02"."""
+    """The cells after an op code's name. Of spin down's, document 01 says only that it "is answered "not supported"": "result 02"."""
     if op == 0x13:
         return "-", "-", "-", "not supported: 80 13 02", "-"
     widths = parameter(name)

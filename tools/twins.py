@@ -12,8 +12,13 @@ import re
 import sys
 import time
 
-from proving import ROOT, TOP
+from proving import ROOT, TOP, short
+from reporting import row, write
 
+# The parts of document 01 by the word in a twin's head, each with its heading in the report.
+PARTS = {"control point": "The control point", "layouts": "The layouts", "feature": "The Feature value", "well-formedness": "Well-formed records",
+         "splitting": "Splitting", "reading": "Reading", "collecting": "Collecting", "listing": "The listing", "the C host": "The C host",
+         "reference": "The printed tables"}
 FILES = ["machine", "calls", "judging", "op_codes", "layouts", "records", "splitting", "reading", "collecting", "listing", "host", "reference"]
 
 
@@ -160,15 +165,22 @@ def judge(copy, twin, run):
     return verdict, program
 
 
-def try_twins(copy, only, run, report):
-    twins = [twin for name in FILES for twin in twins_of(os.path.join(ROOT, "tools", "twins", name + ".txt")) if only in f"{twin.part}: {twin.words}"]
+def reported(asked, rows):
+    """Writes the report: a table for each part, with the twins of that part."""
+    columns = ["document 01", "the wrong reading, in `specs/` and code", "theorems that notice", "a program that notices"]
+    parts = [(part, [line for other, line in rows if other == part]) for part in PARTS]
+    write(asked, "The twins of tools/twins/", [(PARTS[part], columns, lines) for part, lines in parts if lines])
+
+
+def try_twins(copy, asked):
+    twins = [twin for name in FILES for twin in twins_of(os.path.join(ROOT, "tools", "twins", name + ".txt")) if asked.only in f"{twin.part}: {twin.words}"]
     for twin in twins:
         twin.texts(lambda file: open(copy.path(file)).read())
     copy.together()
     rows, tally, good = [], {}, True
     for number, twin in enumerate(twins, 1):
         began = time.time()
-        verdict, program = judge(copy, twin, run)
+        verdict, program = judge(copy, twin, asked.run)
         word = verdict.word()
         if word == "survived":
             word = "by a run alone" if program != "none" else "UNNOTICED"
@@ -180,10 +192,7 @@ def try_twins(copy, only, run, report):
         if not word.startswith("by "):
             for line in [verdict.where] + [f"not proved: {name}" for name in verdict.functions] + verdict.errors:
                 print("    " + line, flush=True)
-        rows.append(f"| {twin.quote} | {twin.words} | {shown(theorems)} | {program} |")
+        rows.append((twin.part, row(short(twin.quote), twin.words, shown(theorems), program)))
     print(f"{len(twins)} twins: " + ", ".join(f"{n} {word}" for word, n in sorted(tally.items())))
-    if report:
-        with open(report, "w") as out:
-            head = "| document 01 | the wrong reading, in `specs/` and code | theorems that notice | a program that notices |\n|---|---|---|---|\n"
-            out.write(head + "\n".join(rows) + "\n")
+    reported(asked, rows)
     return good

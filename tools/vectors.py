@@ -277,7 +277,7 @@ def plain_cases():
 
 
 def opening(kind, told):
-    """"Opening a collection 11, 35": a refusal's number, or none. An open collection is told nothing."""
+    """"opening a collection 11, 35": a refusal's number, or none. An open collection is told nothing."""
     if kind not in KINDS:
         return 11
     return 35 if told is not None and told & ~all_groups(kind) else None

@@ -1,4 +1,4 @@
-"""Lays out a kind's page for paper: what comes before "The code" on the left page, the code and its output on the right one.
+"""Lays out a kind's page for paper: what comes before `The code` on the left page, the code and its output on the right one.
 
 The tables of the flags and of the fields are side by side. The room that the pictures leave is divided among the rows of the tables, and on the right page
 among the lines of code, so that full pages are dense and the others are not half empty."""

@@ -1,6 +1,6 @@
 """Merges a table's repeated cells: if successive rows share their first cells, each such cell is there once, as high as its rows.
 
-In a table of fields (its first columns are "present when" or "bit", then "group") the first two columns are merged, in one of parameters the op codes. In other
+In a table of fields (its first columns are `present when` or `bit`, then `group`) the first two columns are merged, in one of parameters the op codes. In other
 tables only cells with words are, since numbers in successive rows may be equal by chance. A last column is merged too if it names the calls that give a refusal
 or what a refusal leaves."""
 import re

@@ -204,7 +204,7 @@ pub(crate) fn supports(feature: u8) -> bool {
     feature_of(&FEATURE).has_feature(feature)
 }
 
-// "The characteristic value is 8 octets with RFU bits set to 0", though the machine was opened with every bit set.
+// "the characteristic value is 8 octets with RFU bits set to 0", though the machine was opened with every bit set.
 pub(crate) fn run_feature() {
     let feature = feature_of(b"\xFF\xFF\xFF\xFF\xFF\xFF\xFF\xFF");
     let octets = feature.to_octets();

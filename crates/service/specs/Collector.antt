@@ -86,7 +86,7 @@ module _ (c : Collection) where
   abbrev pub refuses : ℕ → Stepped
   refuses n = record { said = refused n (not (eqb (c .held) 0)); next = after-refusal n }
 
-  -- "Its groups join the held ones. With More Data 1 the answer is "waiting". With More Data 0: .. refusal 34; otherwise the record, with the last
+  -- "Its groups join the held ones. With More Data 1 the answer is "waiting"." "With More Data 0: .. refusal 34; otherwise the record, with the last
   -- part's direction. Nothing is held after either."
   unfoldable pub joins : Part → List ℕ → Bool → Stepped
   joins p s dropped =

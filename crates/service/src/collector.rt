@@ -44,7 +44,7 @@ pub struct Opened {
     pub collection: Collection,
 }
 
-// What a collection answers to a notification. "Each answer says whether held groups were dropped unused."
+// What a collection answers to a notification. "Each answer says whether held groups were dropped unused".
 pub enum Collected {
     Waiting { dropped: bool },
     Record { record: Record, dropped: bool },
