@@ -50,7 +50,8 @@ static void put_record(struct octets *to)
 }
 
 /* Prints a part, and appends it to a capture: its length in two octets, and its octets. */
-static void send_part(size_t number, size_t parts, const struct octets *part, struct octets *capture)
+static void send_part(size_t number, size_t parts, const struct octets *part,
+                      struct octets *capture)
 {
     size_t i;
     printf("part %u of %u:", (unsigned)number, (unsigned)parts);

@@ -7,6 +7,7 @@ from .pictures import Pictures
 from .printed import Fault, read, section, tables
 
 SOURCE = "docs/source"
+TASKS = f"{SOURCE}/tasks.part.md"
 DIRECTIVE = re.compile(r"^\{\{(\S+)(?: (.*))?\}\}$")
 STANDING = re.compile(r"^\*(Proved|Run|Compared): ")
 NAME = re.compile(r"`([^`]+)`")
@@ -23,11 +24,23 @@ def known():
     return words
 
 
-def standing(kind, words, names):
-    """The line under a table: proved, run or compared. Each name in it must be a file, or occur in the crates."""
+def named(words, names):
+    """Fails if a name in backticks is neither a file nor made of words of the code."""
     for name in NAME.findall(words):
         if not os.path.exists(name) and not set(re.findall(r"[\w-]+", name)) <= names:
             raise Fault(f"no file and no name of the crates: {name}")
+
+
+def tasks(names):
+    """The table of what can be called from Rattle and from C."""
+    text = read(TASKS)
+    named(text, names | set(re.findall(r"\w+", read("host/hordivasz.h"))))
+    return text.splitlines()
+
+
+def standing(kind, words, names):
+    """The line under a table: proved, run or compared. Each name in it must be a file, or occur in the crates."""
+    named(words, names)
     return f"*{kind}: {words}*"
 
 
@@ -65,6 +78,8 @@ class Maker:
             return self.lines(page, f"{SOURCE}/{words}")
         if what in ("proved", "run", "compared"):
             return [standing(what.capitalize(), words, self.known)]
+        if what == "tasks":
+            return tasks(self.known)
         if what == "damaged":
             return damaged()
         raise Fault(f"{SOURCE}/{page}.md: no directive {what}")
