@@ -19,4 +19,5 @@ pub mod DemandsOnce
 pub mod ControlLaws
 pub mod AllCases
 pub mod Splitting
+pub mod MostParts
 pub mod Collecting
