@@ -98,7 +98,7 @@ def cut(kind, payload):
         whole = length_of(kind, [0] + left)
         rows.append((groups_of(left), whole, "yes" if whole <= payload else "no", "part %d" % number, groups_of(bits), length_of(kind, bits)))
         left = [bit for bit in left if bit not in bits]
-    table(["remaining groups", "flags, main and these", "fits", "sent", "its groups", "its length"], rows)
+    table(["remaining groups", "octets with flags and main", "fits", "sent", "groups in it", "its octets"], rows)
 
 
 def splitting():

@@ -85,13 +85,13 @@ LEAVES = {
     "splitting": "the lent octets as they were",
     "splitting called from C": "the lent octets and numbers as they were",
     "reading a notification": "the lent numbers as they were",
-    "reading a Feature value": "nothing: it keeps nothing",
+    "reading a Feature value": "nothing: the call has no state",
     "opening a collection": "a collection that holds nothing, not to be used",
     "collecting a notification": "11: the collection as it was; 30 to 34: nothing held",
     "opening a machine": "a console with no target setting and every range 0, not to be used",
     "connect": CONSOLE, "disconnect": CONSOLE, "indications": CONSOLE, "write": CONSOLE, "confirm": CONSOLE,
     "listing a capture": "the lent octets as they were",
-    "a line of a listing": "36, 11 and 37: the listing at its end; 30 to 32: nothing held, and the listing goes on",
+    "a line of a listing": "36, 11 and 37: the listing ends; 30 to 32: nothing held, and the listing goes on",
 }
 
 # "A write is judged in this order: ..", after the refusals
@@ -100,7 +100,7 @@ RESULTS = [
     ("05", "the client does not hold control (but for 00)"),
     ("03", "wrong length, a value outside its range, or 08 with neither 1 nor 2"),
     ("04", "00 finds another holder, 07 finds running, 08 with 1 finds stopped, or 08 with 2 finds anything but running"),
-    ("01", "else: success"),
+    ("01", "otherwise: success"),
 ]
 
 
@@ -221,7 +221,7 @@ def keys():
     """"Each record prints `record=` (1 up), `kind=`, `groups=` (the set in decimal), `direction=`, .." """
     print("\n# Listing\n\n## Keys\n")
     table(["key", "what follows it"], [
-        ("`record=`", "the number of the record, from 1 up"),
+        ("`record=`", "the number of the record, counted from 1"),
         ("`kind=`", "the kind, 1 to 6"),
         ("`groups=`", "the set of optional groups: the sum of 2 to the power of each bit"),
         ("`direction=`", "0 forward, 1 backward; 0 for every kind but the cross trainer"),

@@ -7,7 +7,7 @@ from .svg import FLAGS, GREY, INNER, MARGIN, TINTS, Picture
 HEADING = 15
 HIGH = 22
 WHITE = "#ffffff"
-TRIED, OCTETS, SENT = "remaining groups", "flags, main and these", "sent"
+TRIED, OCTETS, SENT = "remaining groups", "octets with flags and main", "sent"
 
 
 def tried_of(row, part, groups, flags_octets):

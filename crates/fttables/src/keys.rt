@@ -17,7 +17,7 @@ fn print_key(key: &[u8], what: &[u8]) {
 
 pub(crate) fn print_keys() {
     print(b"\n# Listing\n\n## Keys\n\n| key | what follows it |\n|---|---|\n");
-    print_key(&RECORD, b"the number of the record, from 1 up");
+    print_key(&RECORD, b"the number of the record, counted from 1");
     print_key(&KIND, b"the kind, 1 to 6");
     print_key(
         &GROUPS,

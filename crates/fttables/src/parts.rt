@@ -174,7 +174,7 @@ fn print_step(kind: u8, payload: usize, part: u8, left: u32) -> u32 {
 pub(crate) fn print_cut(kind: u8, payload: usize) {
     print_number(b"\n## The cut at payload ", payload as u64);
     print(
-        b"\n\n| remaining groups | flags, main and these | fits | sent | its groups | its length |\n|---|---|---|---|---|---|\n",
+        b"\n\n| remaining groups | octets with flags and main | fits | sent | groups in it | its octets |\n|---|---|---|---|---|---|\n",
     );
     let mut left = listed(kind);
     for part in 0..MOST_PARTS as u8 {
