@@ -14,7 +14,7 @@ last-append : (b : ℕ) (rs : List Row) (r : Row) → last-bit b (rs ++ (r ∷ [
 last-append b [] r = refl
 last-append b (s ∷ rs) r = last-append (s .0) rs r
 
--- a turn of a loop over rows: the bit of the last row
+-- an iteration of a loop over rows: the bit of the last row
 pub next-bit : (b : ℕ) (rs : List Row) (i : ℕ) (d r : Row) → r ≡ getD rs i d → i < length rs → r .0 ≡ last-bit b (take (i + 1) rs)
 next-bit b rs i d r e h = rw (add-one, take-suc rs i d h, ← e) (sym (last-append b (take i rs) r))
 
@@ -23,7 +23,7 @@ module _ (line : ℕ → Row → List ℕ) where
   lines-append b [] r = append-nil (line b r)
   lines-append b (s ∷ rs) r = rw (lines-append (s .0) rs r) (sym (append-assoc (line b s) _ _))
 
-  -- a turn of a loop over rows, and its end
+  -- an iteration of a loop over rows, and its end
   pub next-row : (b : ℕ) (rs : List Row) (i k : ℕ) (d r : Row) {a x c : List ℕ} {at m n : ℕ} → r ≡ getD rs i d → i < length rs → k ≡ last-bit b (take i rs) →
       Wrote a at (by-bit line b (take i rs)) x m → Wrote x m (line k r) c n → Wrote a at (by-bit line b (take (i + 1) rs)) c n
   next-row b rs i k d r e h f p q = rw (add-one, take-suc rs i d h, ← e, lines-append b (take i rs) r, ← f) (then p q)

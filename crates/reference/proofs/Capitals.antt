@@ -1,4 +1,4 @@
--- Names in capitals, and names that were put into a buffer of their own first. Assumes nothing.
+-- Names in capitals, and names that were first written to a buffer of their own. Assumes nothing.
 use Prim.Native.Nat.{ℕ, zero, suc, _+_, _<_, _≤_}
 use Prim.Native.String.{String}
 use mathlib.Core.Path.{_≡_, refl, sym, ap, _∙_}
@@ -12,7 +12,7 @@ use Rattle.text.specs.Text.{Wrote, written, top}
 use Rattle.text.proofs.Writing.{then, roomy, keeps}
 use Rattle.reference.specs.Header.{capital, capitals}
 
--- a turn of a loop that writes a text in capitals, and its end
+-- an iteration of a loop that writes a text in capitals, and its end
 pub then-capital : (text : List ℕ) (i : ℕ) {o o′ o″ : List ℕ} {at m r : ℕ} → i < length text → Wrote o at (capitals (take i text)) o′ m →
     Wrote o′ m (capital (getD text i 0) ∷ []) o″ r → Wrote o at (capitals (take (i + 1) text)) o″ r
 unfolding capitals
@@ -21,7 +21,7 @@ then-capital text i h p q = rw (add-one, take-suc text i 0 h, map-append capital
 pub all-capitals : (text : List ℕ) (i : ℕ) {o o′ : List ℕ} {at m : ℕ} → length text ≤ i → Wrote o at (capitals (take i text)) o′ m → Wrote o at (capitals text) o′ m
 all-capitals text i h p = rw (take-all i text h) at p
 
--- a name that was put at the beginning of a buffer with room for it: where it ends, and what stands up to there
+-- a name written at the beginning of a buffer that has room for it: where it ends, and what the buffer holds up to there
 module _ {o o′ name : List ℕ} {n : ℕ} (p : Wrote o 0 name o′ n) (h : length name ≤ length o) where
   pub name-ends : n ≡ length name
   name-ends = let s : length o ≤ top = p .short in omega (arith, p .place)

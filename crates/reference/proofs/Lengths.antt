@@ -47,7 +47,7 @@ pub field-short : (field : ℕ) → length (bare field) ≤ 32
 unfolding names name bare
 field-short field = let h : length (ascii (getD names field "")) ≤ 32 = entry-short names field refl in rw (length-take-le (length (ascii (getD names field "")) - 1) (ascii (getD names field "")) (omega arith)) (omega arith)
 
--- whichever is chosen
+-- either of two short texts is short
 chosen : (t : Bool) (a b : List ℕ) → length a ≤ 32 → length b ≤ 32 → length (cond t a b) ≤ 32
 chosen true a b h k = h
 chosen false a b h k = k

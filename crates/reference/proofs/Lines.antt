@@ -1,4 +1,4 @@
--- The lines of rows, one behind the other. Assumes nothing.
+-- The lines of rows, one after the other. Assumes nothing.
 use Prim.Native.Nat.{ℕ, _+_, _<_, _≤_}
 use mathlib.Core.Path.{_≡_, sym, ap, _∙_}
 use mathlib.Core.List.{List, [], _∷_, _++_, append-nil, append-assoc}
@@ -26,7 +26,7 @@ module _ (kind : ℕ) where
       let e : o + octets-of (s .2) + size rs ≡ o + (octets-of (s .2) + size rs) = omega arith in
       rw (lines-append (o + octets-of (s .2)) rs r, e) (sym (append-assoc (row-line kind o s) _ _))
 
-  -- a turn of a loop over rows, and its end
+  -- an iteration of a loop over rows, and its end
   pub next-line : (o : ℕ) (rs : List Row) (i k : ℕ) (d r : Row) {a b c : List ℕ} {at m n : ℕ} → r ≡ getD rs i d → i < length rs → k ≡ o + size (take i rs) →
       Wrote a at (row-lines kind o (take i rs)) b m → Wrote b m (row-line kind k r) c n → Wrote a at (row-lines kind o (take (i + 1) rs)) c n
   next-line o rs i k d r e h f p q = rw (add-one, take-suc rs i d h, ← e, lines-append o (take i rs) r, ← f) (then p q)

@@ -1,4 +1,4 @@
--- No second reply and no second content of what is lent meets a contract: for each public function, over the contract itself.
+-- At most one reply, and one content of what is lent, satisfies a contract: for each public function, over the contract itself.
 use denote.Ref.{now}
 use Rattle.record.proofs.Once.{Once, LeftOnce}
 use Rattle.text.proofs.Once.{wrote-once}

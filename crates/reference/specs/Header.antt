@@ -17,7 +17,7 @@ capital c = cond (leb 97 c) (cond (leb c 122) (c - 32) c) (cond (eqb c 32) 95 c)
 unfoldable pub capitals : List ℕ → List ℕ
 capitals text = map capital text
 
--- how each macro of a kind begins
+-- the beginning of each macro of a kind
 unfoldable pub prefix : ℕ → List ℕ
 prefix kind = ascii "#define HORDIVASZ_" ++ capitals (ascii (kind-word kind))
 
@@ -27,17 +27,17 @@ mask-line kind b r =
     cond (eqb (r .0) b) []
     (prefix kind ++ ascii "_" ++ capitals (group-word kind r) ++ ascii "_MASK (1u << " ++ decimal (r .0) ++ ascii ")\n")
 
--- how many octets a field has, with its width
+-- the number of octets of a field, with its width as a comment
 unfoldable pub octets-line : ℕ → Row → List ℕ
 octets-line kind r =
     prefix kind ++ ascii "_" ++ capitals (bare (r .1)) ++ ascii "_OCTETS " ++ decimal (octets-of (r .2)) ++ ascii "u /* " ++ ascii (width-word (r .2))
     ++ ascii " */\n"
 
--- what a row gives: its group's mask, where it is the group's first, and its own octets
+-- the macros of a row: the mask of its group, if it is the group's first row, and its own octets
 unfoldable pub row-macros : ℕ → ℕ → Row → List ℕ
 row-macros kind b r = mask-line kind b r ++ octets-line kind r
 
--- a number of a kind, behind the rest of its name
+-- a macro of a kind whose value is a number, with the rest of its name
 unfoldable pub number-macro : ℕ → List ℕ → ℕ → List ℕ
 number-macro kind name n = prefix kind ++ name ++ decimal n ++ ascii "u\n"
 
@@ -53,7 +53,7 @@ direction-macro kind = cond (eqb kind 2) (prefix kind ++ ascii "_BACKWARD_MASK (
 unfoldable pub all-macro : ℕ → List ℕ
 all-macro kind = prefix kind ++ ascii "_ALL_GROUPS 0x" ++ hex (listed kind / 256 % 256) ++ hex (listed kind % 256) ++ ascii "u\n"
 
--- the macros of a kind: each row of its layout in the order of the wire; last the octets of a notification with all groups
+-- the macros of a kind: those of each row of its layout, in the order of the wire, between the kind's own; the last is the octets of a notification with all groups
 unfoldable pub macros : ℕ → List ℕ
 macros kind =
     first-macros kind ++ by-bit (row-macros kind) 0 (layout kind) ++ direction-macro kind ++ all-macro kind

@@ -20,7 +20,7 @@ pub treadmill-lines :
 unfolding layout tables treadmill has named size names name bare decimal group-word row-names unit-cell row-place row-line
 treadmill-lines = (refl, refl, refl, refl)
 
--- a group of one field has the field's name, the main group is `main`, and fields that stand together name theirs
+-- a group of one field has the field's name, the main group is `main`, and other groups of several fields are named by their fields
 pub other-lines :
     (row-line 3 4 (getD (layout 3) 1 no-row) ≡ ascii "| bit 0 is 0 | main | steps | u16 | 4 | |\n") ×
     (row-line 3 10 (getD (layout 3) 4 no-row) ≡ ascii "| bit 3 is 1 | positive_gain | positive_gain | u16 | 10 | |\n") ×
@@ -28,7 +28,7 @@ pub other-lines :
 unfolding layout tables step-climber cross-trainer has named size names name bare decimal group-word row-names unit-cell row-place row-line
 other-lines = (refl, refl, refl)
 
--- the indoor bike's 30 octets at payload 30, in one part; and the cross trainer's 18, 20 and 9 less two times its flags
+-- the indoor bike's 30 octets at payload 30, in one part; and the cross trainer's 18, 20 and 9 less twice its flags
 pub all-groups :
     (sizes 6 ≡ ascii "Flags: 2 octets. With all groups present: 30 octets.\n\n") ×
     (sizes 2 ≡ ascii "Flags: 3 octets. With all groups present: 41 octets.\n\n") ×
@@ -47,7 +47,7 @@ pub units :
 unfolding layout tables indoor-bike has named size names name bare decimal group-word row-names unit-cell row-place row-line
 units = (refl, refl, refl, refl, refl, refl)
 
--- the flags behind More Data: each group's bit once, under the group's name; then what is reserved, and the direction of kind 2
+-- the flags after More Data: each group's bit once, under the group's name; then what is reserved, and the direction of kind 2
 pub flag-samples :
     (bit-lines 3 ≡ ascii "| 1 | 1: step_rate present |\n| 2 | 1: average_step_rate present |\n| 3 | 1: positive_gain present |\n"
     ++ ascii "| 4 | 1: energy present |\n| 5 | 1: heart_rate present |\n| 6 | 1: metabolic_equivalent present |\n"
@@ -74,7 +74,7 @@ pub macro-samples :
 unfolding layout tables step-climber has named size groups-of listed names name bare decimal hex group-word kind-word whole-length capitals prefix mask-line octets-line row-macros number-macro first-macros direction-macro all-macro macros
 macro-samples = (refl, refl)
 
--- document 01's flags of all groups at payload 30 and more, FE 1F of the indoor bike, and the length of each kind's notification with all groups, by its part lengths: parts of one record
+-- document 01's flags of an indoor bike with all groups, FE 1F; and of each kind the length of one notification with all groups, from document 01's part lengths: their sum,
 -- less the flags of all parts but one
 pub whole-samples :
     (all-macro 6 ≡ ascii "#define HORDIVASZ_INDOOR_BIKE_ALL_GROUPS 0x1FFEu\n") ×

@@ -46,7 +46,7 @@ columns kind =
 abbrev pub present-word : ℕ → String
 present-word bit = cond (eqb bit 0) " is 0 | " " is 1 | "
 
--- the name of a group of several fields, by one of them: the numbers of its fields stand together
+-- the name of a group of several fields, given one of them: the numbers of its fields are consecutive
 abbrev pub shared-word : ℕ → String
 shared-word f =
     cond (leb f ramp-angle) "slope" (cond (leb f negative-gain) "gain" (cond (leb f energy-per-minute) "energy"
@@ -72,11 +72,11 @@ abbrev pub row-lines : ℕ → ℕ → List Row → List ℕ
 row-lines kind o [] = []
 row-lines kind o (r ∷ rows) = row-line kind o r ++ row-lines kind (o + octets-of (r .2)) rows
 
--- every row of the layout, in its order, behind the flags
+-- every row of the layout, in its order, after the flags
 unfoldable pub table : ℕ → List ℕ
 table kind = row-lines kind (flags-octets kind) (layout kind)
 
--- the bit of the last of some rows; of none, the one before them
+-- the bit of the last of some rows; if there are none, the given bit
 abbrev pub last-bit : ℕ → List Row → ℕ
 last-bit b [] = b
 last-bit b (r ∷ rows) = last-bit (r .0) rows
@@ -85,7 +85,7 @@ last-bit b (r ∷ rows) = last-bit (r .0) rows
 unfoldable pub flag-line : ℕ → ℕ → Row → List ℕ
 flag-line kind b r = cond (eqb (r .0) b) [] (ascii "| " ++ decimal (r .0) ++ ascii " | 1: " ++ group-word kind r ++ ascii " present |\n")
 
--- the lines of rows, each by the bit of the row before it and by the row itself
+-- the lines of rows; each line depends on the bit of the row before it and on the row itself
 abbrev pub by-bit : (ℕ → Row → List ℕ) → ℕ → List Row → List ℕ
 by-bit line b [] = []
 by-bit line b (r ∷ rows) = line b r ++ by-bit line (r .0) rows
@@ -96,7 +96,7 @@ other-flags kind b =
     cond (eqb kind 2) (ascii "| 15 | direction: 0 forward, 1 backward |\n| 16 to 23 | reserved: written 0, ignored when read |\n")
     (ascii "| " ++ decimal (b + 1) ++ ascii " to 15 | reserved: written 0, ignored when read |\n")
 
--- the bits behind More Data
+-- the bits after More Data
 unfoldable pub bit-lines : ℕ → List ℕ
 bit-lines kind = by-bit (flag-line kind) 0 (layout kind) ++ other-flags kind (last-bit 0 (layout kind))
 

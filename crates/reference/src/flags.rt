@@ -25,7 +25,7 @@ fn put_flag(out: &mut [u8], at: usize, kind: u8, before: u8, row: Row) -> usize
     put_bytes(out, d, b" present |\n")
 }
 
-// The bits behind the last group's: the cross trainer has its direction there, and all others are reserved.
+// The bits after the last group's: the cross trainer has its direction there, and all others are reserved.
 fn put_others(out: &mut [u8], at: usize, kind: u8, last: u8) -> usize
     ensures { λ r. ⌜ Wrote (now (out .entry)) at (other-flags kind last) (now (out .exit)) r ⌝ }
 {
@@ -46,7 +46,7 @@ fn put_others(out: &mut [u8], at: usize, kind: u8, last: u8) -> usize
     )
 }
 
-// The groups by their bits, and the bits behind them.
+// The groups by their bits, and the bits after them.
 fn put_bits(out: &mut [u8], at: usize, kind: u8) -> usize
     ensures { λ r. ⌜ Wrote (now (out .entry)) at (bit-lines kind) (now (out .exit)) r ⌝ }
 {

@@ -55,7 +55,7 @@ fn put_capitals(out: &mut [u8], at: usize, text: &[u8]) -> usize
     next
 }
 
-// The first octets of a text in capitals.
+// The first n octets of a text, in capitals.
 fn put_raised(out: &mut [u8], at: usize, text: &[u8], n: usize) -> usize
     requires { ⌜ n ≤ length (now text) ⌝ }
     ensures { λ r. ⌜ Wrote (now (out .entry)) at (capitals (take n (now (text .entry)))) (now (out .exit)) r ⌝ }
@@ -63,6 +63,7 @@ fn put_raised(out: &mut [u8], at: usize, text: &[u8], n: usize) -> usize
     put_capitals(out, at, &text[..n])
 }
 
+// The name of a kind in capitals, by way of a buffer of its own.
 fn put_kind_name(out: &mut [u8], at: usize, kind: u8) -> usize
     ensures { λ r. ⌜ Wrote (now (out .entry)) at (capitals (ascii (kind-word kind))) (now (out .exit)) r ⌝ }
 {
@@ -72,6 +73,7 @@ fn put_kind_name(out: &mut [u8], at: usize, kind: u8) -> usize
     put_raised(out, at, name, n)
 }
 
+// The name of a row's group in capitals.
 fn put_group_name(out: &mut [u8], at: usize, kind: u8, row: Row) -> usize
     ensures { λ r. ⌜ Wrote (now (out .entry)) at (capitals (group-word kind row)) (now (out .exit)) r ⌝ }
 {
@@ -81,6 +83,7 @@ fn put_group_name(out: &mut [u8], at: usize, kind: u8, row: Row) -> usize
     put_raised(out, at, name, n)
 }
 
+// The name of a field in capitals.
 fn put_field_name(out: &mut [u8], at: usize, field: usize) -> usize
     ensures { λ r. ⌜ Wrote (now (out .entry)) at (capitals (bare field)) (now (out .exit)) r ⌝ }
 {
@@ -90,7 +93,7 @@ fn put_field_name(out: &mut [u8], at: usize, field: usize) -> usize
     put_raised(out, at, name, n)
 }
 
-// How each macro of a kind begins.
+// The beginning of each macro of a kind.
 fn put_prefix(out: &mut [u8], at: usize, kind: u8) -> usize
     ensures { λ r. ⌜ Wrote (now (out .entry)) at (prefix kind) (now (out .exit)) r ⌝ }
 {
@@ -115,7 +118,7 @@ fn put_mask(out: &mut [u8], at: usize, kind: u8, before: u8, row: Row) -> usize
     put_bytes(out, e, b")\n")
 }
 
-// How many octets a field has, with its width.
+// The number of octets of a field, with its width as a comment.
 fn put_octets(out: &mut [u8], at: usize, kind: u8, row: Row) -> usize
     ensures { λ r. ⌜ Wrote (now (out .entry)) at (octets-line kind row) (now (out .exit)) r ⌝ }
 {
@@ -132,7 +135,7 @@ fn put_octets(out: &mut [u8], at: usize, kind: u8, row: Row) -> usize
     put_bytes(out, g, b" */\n")
 }
 
-// What a row gives: its group's mask, where it is the group's first, and its own octets.
+// The macros of a row: the mask of its group, if it is the group's first row, and its own octets.
 fn put_row(out: &mut [u8], at: usize, kind: u8, before: u8, row: Row) -> usize
     ensures { λ r. ⌜ Wrote (now (out .entry)) at (row-macros kind before row) (now (out .exit)) r ⌝ }
 {
@@ -155,7 +158,7 @@ fn put_rows(out: &mut [u8], at: usize, kind: u8) -> usize
     next
 }
 
-// A number of a kind, behind the rest of its name.
+// A macro of a kind whose value is a number; `name` is the rest of its name.
 fn put_number(out: &mut [u8], at: usize, kind: u8, name: &[u8], n: u32) -> usize
     ensures { λ r. ⌜ Wrote (now (out .entry)) at (number-macro kind (now (name .entry)) n) (now (out .exit)) r ⌝ }
 {

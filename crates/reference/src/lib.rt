@@ -1,4 +1,4 @@
-// The reference's pages: the table of each kind, printed from the rows that reading and splitting run on.
+// What the reference prints of each kind, from the rows that reading and splitting run on: its tables in Markdown, and its macros for C.
 pub mod flags;
 pub mod header;
 pub mod tables;

@@ -91,7 +91,7 @@ pub(crate) fn put_present(out: &mut [u8], at: usize, bit: u8) -> usize
     put_bytes(out, at, b" is 1 | ")
 }
 
-// The name of a group of several fields, by one of its fields: the fields of such a group stand together.
+// The name of a group of several fields, given one of its fields: the numbers of its fields are consecutive.
 fn put_shared(out: &mut [u8], at: usize, field: u8) -> usize
     ensures { λ r. ⌜ Wrote (now (out .entry)) at (ascii (shared-word field)) (now (out .exit)) r ⌝ }
 {

@@ -1,4 +1,4 @@
--- `put_table` meets its contract. The invariant: the lines of the first i rows are written, and the next begins behind their octets. The measure is
+-- `put_table` meets its contract. The invariant: the lines of the first i rows are written, and the next begins after their octets. The measure is
 -- the number of rows that are left. Assumes nothing.
 use Prim.Native.Nat.{_+_, _*_, _-_, _≤_}
 use mathlib.Core.Path.{_≡_, refl}
