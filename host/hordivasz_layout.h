@@ -1,14 +1,18 @@
 /*
  * The layouts for C: of each kind its number, the masks of its groups, the octets of its flags and
- * fields, and its longest notification; the least and greatest sizes; and the refusals.
+ * fields, and the octets of a record with all its groups; the least and greatest sizes; and the
+ * refusals. Macros and one enum, for any C or C++ compiler; it needs no other header.
+ *
+ * The kinds' numbers and the widths are this reference's: the service's own text leaves widths to
+ * the assigned numbers. A unit is given where the documents of this reference give one.
  *
  * Do not edit: the program fttables prints this file from the tables that the proved code runs on.
- * It needs no other header.
+ * Copyright (c) 2026 the Hordivasz maintainers; see LICENSE.
  */
 #ifndef HORDIVASZ_LAYOUT_H
 #define HORDIVASZ_LAYOUT_H
 
-/* The payload, the most octets that a notification may have, lies between these. */
+/* The payload, the most octets that a notification may have: from the first to the second. */
 #define HORDIVASZ_LEAST_PAYLOAD 20u
 #define HORDIVASZ_GREATEST_PAYLOAD 512u
 
@@ -24,8 +28,11 @@
 
 /*
  * The kinds. In the flags, which are sent least octet first, bit 0 is More Data: the main group is
- * present exactly when it is 0. Each optional group is present exactly when its bit is 1. The
- * fields follow in the order in which they are sent, each group's behind the group's mask.
+ * present exactly when it is 0. Each optional group is present exactly when its bit is 1: the flags
+ * of a record are the masks of its groups, joined by |. A cross trainer that goes backward adds
+ * BACKWARD_MASK, which is not a group. The fields follow in the order in which they are sent, those
+ * of a group after the group's mask. ALL_GROUPS is all masks together; LONGEST is the octets of a
+ * record with all groups, as one notification.
  */
 #define HORDIVASZ_MORE_DATA_MASK (1u << 0)
 
@@ -38,8 +45,8 @@
 #define HORDIVASZ_TREADMILL_DISTANCE_MASK (1u << 2)
 #define HORDIVASZ_TREADMILL_DISTANCE_OCTETS 3u /* u24 */
 #define HORDIVASZ_TREADMILL_SLOPE_MASK (1u << 3)
-#define HORDIVASZ_TREADMILL_INCLINATION_OCTETS 2u /* s16 */
-#define HORDIVASZ_TREADMILL_RAMP_ANGLE_OCTETS 2u /* s16 */
+#define HORDIVASZ_TREADMILL_INCLINATION_OCTETS 2u /* s16 tenths of a percent */
+#define HORDIVASZ_TREADMILL_RAMP_ANGLE_OCTETS 2u /* s16 tenths of a degree */
 #define HORDIVASZ_TREADMILL_GAIN_MASK (1u << 4)
 #define HORDIVASZ_TREADMILL_POSITIVE_GAIN_OCTETS 2u /* u16 */
 #define HORDIVASZ_TREADMILL_NEGATIVE_GAIN_OCTETS 2u /* u16 */
@@ -74,7 +81,7 @@
 #define HORDIVASZ_CROSS_TRAINER_DISTANCE_MASK (1u << 2)
 #define HORDIVASZ_CROSS_TRAINER_DISTANCE_OCTETS 3u /* u24 */
 #define HORDIVASZ_CROSS_TRAINER_STEP_RATE_AND_AVERAGE_STEP_RATE_MASK (1u << 3)
-#define HORDIVASZ_CROSS_TRAINER_STEP_RATE_OCTETS 2u /* u16 */
+#define HORDIVASZ_CROSS_TRAINER_STEP_RATE_OCTETS 2u /* u16 steps per minute */
 #define HORDIVASZ_CROSS_TRAINER_AVERAGE_STEP_RATE_OCTETS 2u /* u16 */
 #define HORDIVASZ_CROSS_TRAINER_STRIDE_COUNT_MASK (1u << 4)
 #define HORDIVASZ_CROSS_TRAINER_STRIDE_COUNT_OCTETS 2u /* u16 */
@@ -82,8 +89,8 @@
 #define HORDIVASZ_CROSS_TRAINER_POSITIVE_GAIN_OCTETS 2u /* u16 */
 #define HORDIVASZ_CROSS_TRAINER_NEGATIVE_GAIN_OCTETS 2u /* u16 */
 #define HORDIVASZ_CROSS_TRAINER_SLOPE_MASK (1u << 6)
-#define HORDIVASZ_CROSS_TRAINER_INCLINATION_OCTETS 2u /* s16 */
-#define HORDIVASZ_CROSS_TRAINER_RAMP_ANGLE_OCTETS 2u /* s16 */
+#define HORDIVASZ_CROSS_TRAINER_INCLINATION_OCTETS 2u /* s16 tenths of a percent */
+#define HORDIVASZ_CROSS_TRAINER_RAMP_ANGLE_OCTETS 2u /* s16 tenths of a degree */
 #define HORDIVASZ_CROSS_TRAINER_RESISTANCE_MASK (1u << 7)
 #define HORDIVASZ_CROSS_TRAINER_RESISTANCE_OCTETS 2u /* s16 */
 #define HORDIVASZ_CROSS_TRAINER_POWER_MASK (1u << 8)
@@ -112,7 +119,7 @@
 #define HORDIVASZ_STEP_CLIMBER_FLOORS_OCTETS 2u /* u16 */
 #define HORDIVASZ_STEP_CLIMBER_STEPS_OCTETS 2u /* u16 */
 #define HORDIVASZ_STEP_CLIMBER_STEP_RATE_MASK (1u << 1)
-#define HORDIVASZ_STEP_CLIMBER_STEP_RATE_OCTETS 2u /* u16 */
+#define HORDIVASZ_STEP_CLIMBER_STEP_RATE_OCTETS 2u /* u16 steps per minute */
 #define HORDIVASZ_STEP_CLIMBER_AVERAGE_STEP_RATE_MASK (1u << 2)
 #define HORDIVASZ_STEP_CLIMBER_AVERAGE_STEP_RATE_OCTETS 2u /* u16 */
 #define HORDIVASZ_STEP_CLIMBER_POSITIVE_GAIN_MASK (1u << 3)
@@ -137,7 +144,7 @@
 #define HORDIVASZ_STAIR_CLIMBER_FLAGS_OCTETS 2u
 #define HORDIVASZ_STAIR_CLIMBER_FLOORS_OCTETS 2u /* u16 */
 #define HORDIVASZ_STAIR_CLIMBER_STEP_RATE_MASK (1u << 1)
-#define HORDIVASZ_STAIR_CLIMBER_STEP_RATE_OCTETS 2u /* u16 */
+#define HORDIVASZ_STAIR_CLIMBER_STEP_RATE_OCTETS 2u /* u16 steps per minute */
 #define HORDIVASZ_STAIR_CLIMBER_AVERAGE_STEP_RATE_MASK (1u << 2)
 #define HORDIVASZ_STAIR_CLIMBER_AVERAGE_STEP_RATE_OCTETS 2u /* u16 */
 #define HORDIVASZ_STAIR_CLIMBER_POSITIVE_GAIN_MASK (1u << 3)
@@ -169,9 +176,9 @@
 #define HORDIVASZ_ROWER_DISTANCE_MASK (1u << 2)
 #define HORDIVASZ_ROWER_DISTANCE_OCTETS 3u /* u24 */
 #define HORDIVASZ_ROWER_PACE_MASK (1u << 3)
-#define HORDIVASZ_ROWER_PACE_OCTETS 2u /* u16 */
+#define HORDIVASZ_ROWER_PACE_OCTETS 2u /* u16 time per 500 meters */
 #define HORDIVASZ_ROWER_AVERAGE_PACE_MASK (1u << 4)
-#define HORDIVASZ_ROWER_AVERAGE_PACE_OCTETS 2u /* u16 */
+#define HORDIVASZ_ROWER_AVERAGE_PACE_OCTETS 2u /* u16 time per 500 meters */
 #define HORDIVASZ_ROWER_POWER_MASK (1u << 5)
 #define HORDIVASZ_ROWER_POWER_OCTETS 2u /* s16 */
 #define HORDIVASZ_ROWER_AVERAGE_POWER_MASK (1u << 6)
@@ -226,7 +233,10 @@
 #define HORDIVASZ_INDOOR_BIKE_ALL_GROUPS 0x1FFEu
 #define HORDIVASZ_INDOOR_BIKE_LONGEST 30u
 
-/* What hordivasz_split and hordivasz_list return: 0, or the first refusal that applies. */
+/*
+ * What hordivasz_split and hordivasz_list return: 0, or a refusal. hordivasz.h has the order in
+ * which they are judged. From C, 13 can only mean that More Data is 1.
+ */
 #define HORDIVASZ_DONE 0u
 #define HORDIVASZ_UNKNOWN_KIND 11u /* kind not 1 to 6 */
 #define HORDIVASZ_PAYLOAD_OUT_OF_RANGE 12u /* payload not 20 to 512 */
@@ -241,7 +251,7 @@
 #define HORDIVASZ_CAPTURE_TOO_LONG 36u /* capture above 65,536 octets */
 #define HORDIVASZ_CAPTURE_CUT_SHORT 37u /* capture ends inside a length or notification */
 
-/* The same numbers as an enum. */
+/* The same numbers as an enum, for a switch: the calls return uint32_t, so cast what they return. */
 enum hordivasz_refusal {
     HORDIVASZ_REFUSAL_NONE = HORDIVASZ_DONE,
     HORDIVASZ_REFUSAL_UNKNOWN_KIND = HORDIVASZ_UNKNOWN_KIND,

@@ -1,5 +1,5 @@
 """The header host/hordivasz_layout.h, from document 01's words and tables alone."""
-from kinds import NAMES, group_name
+from kinds import NAMES, group_name, unit
 from vectors import KINDS, OCTETS, all_groups, flags_length, length_of, part_sets
 
 # "payload not 20 to 512", "notification above 512 octets", "capture above 65,536 octets"
@@ -15,10 +15,14 @@ BEGINNING = """
 
 /*
  * The layouts for C: of each kind its number, the masks of its groups, the octets of its flags and
- * fields, and its longest notification; the least and greatest sizes; and the refusals.
+ * fields, and the octets of a record with all its groups; the least and greatest sizes; and the
+ * refusals. Macros and one enum, for any C or C++ compiler; it needs no other header.
+ *
+ * The kinds' numbers and the widths are this reference's: the service's own text leaves widths to
+ * the assigned numbers. A unit is given where the documents of this reference give one.
  *
  * Do not edit: the program fttables prints this file from the tables that the proved code runs on.
- * It needs no other header.
+ * Copyright (c) 2026 the Hordivasz maintainers; see LICENSE.
  */
 #ifndef HORDIVASZ_LAYOUT_H
 #define HORDIVASZ_LAYOUT_H
@@ -27,8 +31,17 @@ BEGINNING = """
 FLAGS = """
 /*
  * The kinds. In the flags, which are sent least octet first, bit 0 is More Data: the main group is
- * present exactly when it is 0. Each optional group is present exactly when its bit is 1. The
- * fields follow in the order in which they are sent, each group's behind the group's mask.
+ * present exactly when it is 0. Each optional group is present exactly when its bit is 1: the flags
+ * of a record are the masks of its groups, joined by |. A cross trainer that goes backward adds
+ * BACKWARD_MASK, which is not a group. The fields follow in the order in which they are sent, those
+ * of a group after the group's mask. ALL_GROUPS is all masks together; LONGEST is the octets of a
+ * record with all groups, as one notification.
+ */"""
+
+RETURNS = """
+/*
+ * What hordivasz_split and hordivasz_list return: 0, or a refusal. hordivasz.h has the order in
+ * which they are judged. From C, 13 can only mean that More Data is 1.
  */"""
 
 
@@ -46,7 +59,7 @@ def said(words, *macros):
 
 def sizes():
     everything = {kind: range(len(groups)) for kind, groups in KINDS.items()}
-    said("The payload, the most octets that a notification may have, lies between these.",
+    said("The payload, the most octets that a notification may have: from the first to the second.",
          ("least payload", LEAST_PAYLOAD), ("greatest payload", GREATEST_PAYLOAD))
     said("No record has more parts, at any payload.",
          ("most parts", max(len(part_sets(kind, all_groups(kind), LEAST_PAYLOAD)) for kind in KINDS)))
@@ -64,7 +77,7 @@ def kind_macros(kind, name):
         if bit:
             macro(f"{name} {group_name(bit, group)} mask", "(1u << %d)" % bit)
         for field, width in group:
-            macro(f"{name} {field} octets", "%du" % OCTETS[width], width)
+            macro(f"{name} {field} octets", "%du" % OCTETS[width], f"{width} {unit(kind, field)}".rstrip())
     if kind == 2:
         macro(name + " backward mask", "(1u << 15)")
     macro(name + " all groups", "0x%04Xu" % all_groups(kind))
@@ -73,7 +86,7 @@ def kind_macros(kind, name):
 
 def refusals(words):
     """With document 01's words on when each is given."""
-    print("\n/* What hordivasz_split and hordivasz_list return: 0, or the first refusal that applies. */")
+    print(RETURNS)
     macro("done", "0u")
     for number, name in RETURNED.items():
         macro(name, "%du" % number, words[number])
@@ -81,7 +94,7 @@ def refusals(words):
     for number, name in LISTED.items():
         macro(name, "%du" % number, words[number])
     members = [name.upper().replace(" ", "_") for name in {**RETURNED, **LISTED}.values()]
-    print("\n/* The same numbers as an enum. */\nenum hordivasz_refusal {\n    HORDIVASZ_REFUSAL_NONE = HORDIVASZ_DONE,")
+    print("\n/* The same numbers as an enum, for a switch: the calls return uint32_t, so cast what they return. */\nenum hordivasz_refusal {\n    HORDIVASZ_REFUSAL_NONE = HORDIVASZ_DONE,")
     print(",\n".join("    HORDIVASZ_REFUSAL_%s = HORDIVASZ_%s" % (name, name) for name in members) + "\n};")
 
 

@@ -56,7 +56,7 @@ fn most() -> Extent {
 fn print_numbers() {
     let all = most();
     print(
-        b"/* The payload, the most octets that a notification may have, lies between these. */\n",
+        b"/* The payload, the most octets that a notification may have: from the first to the second. */\n",
     );
     print_macro(b"LEAST_PAYLOAD", LEAST_PAYLOAD);
     print_macro(b"GREATEST_PAYLOAD", GREATEST_PAYLOAD);
@@ -84,7 +84,7 @@ fn print_macros(kind: u8) {
 // The macros of all kinds.
 fn print_kinds() {
     print(
-        b"\n/*\n * The kinds. In the flags, which are sent least octet first, bit 0 is More Data: the main group is\n * present exactly when it is 0. Each optional group is present exactly when its bit is 1. The\n * fields follow in the order in which they are sent, each group's behind the group's mask.\n */\n#define HORDIVASZ_MORE_DATA_MASK (1u << 0)\n",
+        b"\n/*\n * The kinds. In the flags, which are sent least octet first, bit 0 is More Data: the main group is\n * present exactly when it is 0. Each optional group is present exactly when its bit is 1: the flags\n * of a record are the masks of its groups, joined by |. A cross trainer that goes backward adds\n * BACKWARD_MASK, which is not a group. The fields follow in the order in which they are sent, those\n * of a group after the group's mask. ALL_GROUPS is all masks together; LONGEST is the octets of a\n * record with all groups, as one notification.\n */\n#define HORDIVASZ_MORE_DATA_MASK (1u << 0)\n",
     );
     for kind in TREADMILL..=INDOOR_BIKE {
         print_macros(kind);
@@ -163,7 +163,7 @@ fn print_list(list: u8) {
 // The refusals that a C host meets.
 fn print_refusals() {
     print(
-        b"\n/* What hordivasz_split and hordivasz_list return: 0, or the first refusal that applies. */\n#define HORDIVASZ_DONE 0u\n",
+        b"\n/*\n * What hordivasz_split and hordivasz_list return: 0, or a refusal. hordivasz.h has the order in\n * which they are judged. From C, 13 can only mean that More Data is 1.\n */\n#define HORDIVASZ_DONE 0u\n",
     );
     print_list(RETURNED);
     print(
@@ -171,7 +171,7 @@ fn print_refusals() {
     );
     print_list(LISTED);
     print(
-        b"\n/* The same numbers as an enum. */\nenum hordivasz_refusal {\n    HORDIVASZ_REFUSAL_NONE = HORDIVASZ_DONE",
+        b"\n/* The same numbers as an enum, for a switch: the calls return uint32_t, so cast what they return. */\nenum hordivasz_refusal {\n    HORDIVASZ_REFUSAL_NONE = HORDIVASZ_DONE",
     );
     print_list(ALL);
     print(b"\n};\n");
@@ -181,7 +181,7 @@ fn print_refusals() {
 pub(crate) fn print_header() {
     print(b"\n# hordivasz_layout.h\n\n");
     print(
-        b"/*\n * The layouts for C: of each kind its number, the masks of its groups, the octets of its flags and\n * fields, and its longest notification; the least and greatest sizes; and the refusals.\n *\n * Do not edit: the program fttables prints this file from the tables that the proved code runs on.\n * It needs no other header.\n */\n#ifndef HORDIVASZ_LAYOUT_H\n#define HORDIVASZ_LAYOUT_H\n\n",
+        b"/*\n * The layouts for C: of each kind its number, the masks of its groups, the octets of its flags and\n * fields, and the octets of a record with all its groups; the least and greatest sizes; and the\n * refusals. Macros and one enum, for any C or C++ compiler; it needs no other header.\n *\n * The kinds' numbers and the widths are this reference's: the service's own text leaves widths to\n * the assigned numbers. A unit is given where the documents of this reference give one.\n *\n * Do not edit: the program fttables prints this file from the tables that the proved code runs on.\n * Copyright (c) 2026 the Hordivasz maintainers; see LICENSE.\n */\n#ifndef HORDIVASZ_LAYOUT_H\n#define HORDIVASZ_LAYOUT_H\n\n",
     );
     print_numbers();
     print_kinds();

@@ -8,7 +8,7 @@ use Rattle.record.specs.Layout.{layout, octets-of}
 use Rattle.record.specs.Groups.{listed, flags-octets}
 use Rattle.text.specs.Text.{ascii, decimal, hex}
 use Rattle.text.specs.Names.{bare}
-use Rattle.reference.specs.Tables.{width-word, group-word, kind-word, by-bit, whole-length}
+use Rattle.reference.specs.Tables.{width-word, unit-word, group-word, kind-word, by-bit, whole-length}
 
 -- a small letter as a capital, and `_` for a space
 abbrev pub capital : ℕ → ℕ
@@ -27,11 +27,14 @@ mask-line kind b r =
     cond (eqb (r .0) b) []
     (prefix kind ++ ascii "_" ++ capitals (group-word kind r) ++ ascii "_MASK (1u << " ++ decimal (r .0) ++ ascii ")\n")
 
--- the number of octets of a field, with its width as a comment
+-- a comment with the width of a field, and its unit: "inclination s16, in tenths of a percent, then ramp angle s16, in tenths of a degree"
+unfoldable pub width-note : ℕ → Row → List ℕ
+width-note kind r = ascii "/* " ++ ascii (width-word (r .2)) ++ ascii " " ++ ascii (unit-word kind (r .1)) ++ ascii "*/\n"
+
+-- the number of octets of a field
 unfoldable pub octets-line : ℕ → Row → List ℕ
 octets-line kind r =
-    prefix kind ++ ascii "_" ++ capitals (bare (r .1)) ++ ascii "_OCTETS " ++ decimal (octets-of (r .2)) ++ ascii "u /* " ++ ascii (width-word (r .2))
-    ++ ascii " */\n"
+    prefix kind ++ ascii "_" ++ capitals (bare (r .1)) ++ ascii "_OCTETS " ++ decimal (octets-of (r .2)) ++ ascii "u " ++ width-note kind r
 
 -- the macros of a row: the mask of its group, if it is the group's first row, and its own octets
 unfoldable pub row-macros : ℕ → ℕ → Row → List ℕ

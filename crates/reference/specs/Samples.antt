@@ -8,7 +8,7 @@ use Rattle.record.specs.Layout.{layout, no-row, tables, treadmill, cross-traine
 use Rattle.record.specs.Groups.{has, named, size, groups-of, listed}
 use Rattle.text.specs.Names.{names, name, bare}
 use Rattle.text.specs.Text.{ascii, decimal, hex}
-use Rattle.reference.specs.Header.{capitals, prefix, mask-line, octets-line, row-macros, number-macro, first-macros, direction-macro, all-macro, macros}
+use Rattle.reference.specs.Header.{capitals, prefix, mask-line, width-note, octets-line, row-macros, number-macro, first-macros, direction-macro, all-macro, macros}
 use Rattle.reference.specs.Tables.{group-word, unit-word, unit-cell, flag-line, other-flags, bit-lines, row-names, row-place, row-line, kind-word, title, whole-length, sizes}
 
 -- "Slope is inclination s16, in tenths of a percent, then ramp angle s16, in tenths of a degree." "Gain is positive u16, then negative u16."
@@ -60,7 +60,7 @@ flag-samples = (refl, refl)
 pub macro-samples :
     (macros 3 ≡ ascii "#define HORDIVASZ_STEP_CLIMBER 3u\n#define HORDIVASZ_STEP_CLIMBER_FLAGS_OCTETS 2u\n"
     ++ ascii "#define HORDIVASZ_STEP_CLIMBER_FLOORS_OCTETS 2u /* u16 */\n#define HORDIVASZ_STEP_CLIMBER_STEPS_OCTETS 2u /* u16 */\n"
-    ++ ascii "#define HORDIVASZ_STEP_CLIMBER_STEP_RATE_MASK (1u << 1)\n#define HORDIVASZ_STEP_CLIMBER_STEP_RATE_OCTETS 2u /* u16 */\n"
+    ++ ascii "#define HORDIVASZ_STEP_CLIMBER_STEP_RATE_MASK (1u << 1)\n#define HORDIVASZ_STEP_CLIMBER_STEP_RATE_OCTETS 2u /* u16 steps per minute */\n"
     ++ ascii "#define HORDIVASZ_STEP_CLIMBER_AVERAGE_STEP_RATE_MASK (1u << 2)\n#define HORDIVASZ_STEP_CLIMBER_AVERAGE_STEP_RATE_OCTETS 2u /* u16 */\n"
     ++ ascii "#define HORDIVASZ_STEP_CLIMBER_POSITIVE_GAIN_MASK (1u << 3)\n#define HORDIVASZ_STEP_CLIMBER_POSITIVE_GAIN_OCTETS 2u /* u16 */\n"
     ++ ascii "#define HORDIVASZ_STEP_CLIMBER_ENERGY_MASK (1u << 4)\n#define HORDIVASZ_STEP_CLIMBER_TOTAL_ENERGY_OCTETS 2u /* u16 */\n"
@@ -70,9 +70,11 @@ pub macro-samples :
     ++ ascii "#define HORDIVASZ_STEP_CLIMBER_ELAPSED_MASK (1u << 7)\n#define HORDIVASZ_STEP_CLIMBER_ELAPSED_OCTETS 2u /* u16 */\n"
     ++ ascii "#define HORDIVASZ_STEP_CLIMBER_REMAINING_MASK (1u << 8)\n#define HORDIVASZ_STEP_CLIMBER_REMAINING_OCTETS 2u /* u16 */\n"
     ++ ascii "#define HORDIVASZ_STEP_CLIMBER_ALL_GROUPS 0x01FEu\n#define HORDIVASZ_STEP_CLIMBER_LONGEST 23u\n") ×
-    (direction-macro 2 ≡ ascii "#define HORDIVASZ_CROSS_TRAINER_BACKWARD_MASK (1u << 15)\n")
-unfolding layout tables step-climber has named size groups-of listed names name bare decimal hex group-word kind-word whole-length capitals prefix mask-line octets-line row-macros number-macro first-macros direction-macro all-macro macros
-macro-samples = (refl, refl)
+    (direction-macro 2 ≡ ascii "#define HORDIVASZ_CROSS_TRAINER_BACKWARD_MASK (1u << 15)\n") ×
+    (width-note 1 (getD (layout 1) 3 no-row) ≡ ascii "/* s16 tenths of a percent */\n") ×
+    (width-note 2 (getD (layout 2) 9 no-row) ≡ ascii "/* s16 tenths of a degree */\n")
+unfolding layout tables treadmill cross-trainer step-climber has named size groups-of listed names name bare decimal hex group-word kind-word whole-length capitals prefix mask-line width-note octets-line row-macros number-macro first-macros direction-macro all-macro macros
+macro-samples = (refl, refl, refl, refl)
 
 -- document 01's flags of an indoor bike with all groups, FE 1F; and of each kind the length of one notification with all groups, from document 01's part lengths: their sum,
 -- less the flags of all parts but one

@@ -2,6 +2,7 @@
 use crate::tables::put_kind;
 use crate::tables::whole_length;
 use crate::words::put_group;
+use crate::words::put_unit;
 use crate::words::put_width;
 use record::groups::flags_length;
 use record::groups::listed;
@@ -22,7 +23,7 @@ ghost use Rattle.record.specs.Layout.{layout};
 ghost use Rattle.text.specs.Text.{Wrote, ascii};
 ghost use Rattle.text.specs.Names.{bare};
 ghost use Rattle.reference.specs.Tables.{kind-word, group-word, by-bit};
-ghost use Rattle.reference.specs.Header.{capital, capitals, prefix, mask-line, octets-line, row-macros, number-macro, first-macros, direction-macro, all-macro, macros};
+ghost use Rattle.reference.specs.Header.{capital, capitals, prefix, mask-line, width-note, octets-line, row-macros, number-macro, first-macros, direction-macro, all-macro, macros};
 
 // No name of a kind, a group or a field is longer.
 const LONGEST_NAME: usize = 32;
@@ -118,7 +119,20 @@ fn put_mask(out: &mut [u8], at: usize, kind: u8, before: u8, row: Row) -> usize
     put_bytes(out, e, b")\n")
 }
 
-// The number of octets of a field, with its width as a comment.
+// A comment with the width of a field, and its unit if a document gives it one.
+fn put_width_note(out: &mut [u8], at: usize, kind: u8, row: Row) -> usize
+    ensures { λ r. ⌜ Wrote (now (out .entry)) at (width-note kind row) (now (out .exit)) r ⌝ }
+{
+    let field = row.1;
+    let width = row.2;
+    let a = put_bytes(out, at, b"/* ");
+    let b = put_width(out, a, width);
+    let c = put_bytes(out, b, b" ");
+    let d = put_unit(out, c, kind, field);
+    put_bytes(out, d, b"*/\n")
+}
+
+// The number of octets of a field.
 fn put_octets(out: &mut [u8], at: usize, kind: u8, row: Row) -> usize
     ensures { λ r. ⌜ Wrote (now (out .entry)) at (octets-line kind row) (now (out .exit)) r ⌝ }
 {
@@ -130,9 +144,8 @@ fn put_octets(out: &mut [u8], at: usize, kind: u8, row: Row) -> usize
     let c = put_field_name(out, b, field);
     let d = put_bytes(out, c, b"_OCTETS ");
     let e = put_decimal(out, d, number);
-    let f = put_bytes(out, e, b"u /* ");
-    let g = put_width(out, f, width);
-    put_bytes(out, g, b" */\n")
+    let f = put_bytes(out, e, b"u ");
+    put_width_note(out, f, kind, row)
 }
 
 // The macros of a row: the mask of its group, if it is the group's first row, and its own octets.

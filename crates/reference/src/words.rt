@@ -57,7 +57,7 @@ fn put_rate(out: &mut [u8], at: usize, kind: u8, field: u8) -> usize
 }
 
 // "inclination s16, in tenths of a percent, then ramp angle s16, in tenths of a degree"; the others as source document 000 gives them.
-fn put_unit(out: &mut [u8], at: usize, kind: u8, field: u8) -> usize
+pub(crate) fn put_unit(out: &mut [u8], at: usize, kind: u8, field: u8) -> usize
     ensures { λ r. ⌜ Wrote (now (out .entry)) at (ascii (unit-word kind field)) (now (out .exit)) r ⌝ }
 {
     if field == INCLINATION {

@@ -11,33 +11,10 @@ use Rattle.reference.proofs.header.put_octets.Tie as tie
 octets-few : (c : tie.After-width-length) → c .width-length .result ≤ 3
 octets-few c = rw (c .width-length .ensures) (width-most (c .before .before .before .args .row .2))
 
-same-length : tie.Need-same-length
-same-length c =
-    let p8 = c .before .before in
-    let p7 = p8 .before .before .before .before .before in
-    let p6 = p7 .before .before .before .before in
-    let p5 = p6 .before .before .before .before .before in
-    let p4 = p5 .before .before .before .before in
-    let p3 = p4 .before .before .before .before .before in
-    let p2 = p3 .before .before .before .before in
-    let p1 = p2 .before .before .before .before .before in
-    omega (
-      arith,
-      p1 .put-prefix .kept .0,
-      p2 .put-bytes .kept .0,
-      p3 .put-field-name .kept .0,
-      p4 .put-bytes2 .kept .0,
-      p5 .put-decimal .kept .0,
-      p6 .put-bytes3 .kept .0,
-      p7 .put-width .kept .0,
-      p8 .put-bytes4 .kept .0,
-    )
-
 returns : tie.Need-returns
 unfolding octets-line
 returns c =
-    let p8 = c .before .before in
-    let p7 = p8 .before .before .before .before .before in
+    let p7 = c .before .before in
     let p6 = p7 .before .before .before .before in
     let p5 = p6 .before .before .before .before .before in
     let p4 = p5 .before .before .before .before in
@@ -45,8 +22,8 @@ returns c =
     let p2 = p3 .before .before .before .before in
     let p1 = p2 .before .before .before .before .before in
     rw (← p1 .before .before .width-length .ensures)
-    (then (then (then (then (then (then (then (p1 .put-prefix .ensures) (p2 .put-bytes .ensures)) (p3 .put-field-name .ensures)) (p4 .put-bytes2 .ensures)) (p5 .put-decimal .ensures))
-    (p6 .put-bytes3 .ensures)) (p7 .put-width .ensures)) (p8 .put-bytes4 .ensures))
+    (then (then (then (then (then (then (p1 .put-prefix .ensures) (p2 .put-bytes .ensures)) (p3 .put-field-name .ensures)) (p4 .put-bytes2 .ensures)) (p5 .put-decimal .ensures))
+    (p6 .put-bytes3 .ensures)) (p7 .put-width-note .ensures))
 
 pub put-octets-spec : {M : Type 1} → statement M
 put-octets-spec =
@@ -66,6 +43,4 @@ put-octets-spec =
     (λ c κs. search needs)
     (λ c κs. search needs)
     (λ c. search needs)
-    (λ c κs. search needs)
-    same-length
     returns)
