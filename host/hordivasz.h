@@ -12,12 +12,11 @@
  * allocate no memory, keep nothing between calls and may be made from several threads at once.
  * Compile with the headers of the library's own version: a later one may have larger sizes.
  *
- * What a host must not do: hand in a null pointer, even with a length of 0 (point to any octet of
- * yours); let two of the areas and numbers handed in overlap, except for areas that are only read,
- * so not the same pointer for `length` and `parts` either; change what is handed in before the call
- * returns; or give a length above what is behind its pointer. The library cannot see these, and
- * promises nothing after them. Everything else may be handed in: any octets, any kind, any payload,
- * any part, any number of octets.
+ * What a host must not do: pass a null pointer, even with a length of 0 (pass the address of any
+ * octet of yours); pass buffers or numbers that overlap, except buffers that are only read; pass the
+ * same pointer as `length` and `parts`; change a buffer before the call returns; or give a length
+ * above the buffer's own. The library cannot detect these, and promises nothing after them. Any
+ * octets, kind, payload, part and number of octets may be passed.
  *
  * Copyright (c) 2026 the Hordivasz maintainers; see LICENSE.
  */
@@ -71,7 +70,7 @@ uint32_t hordivasz_split(uint32_t kind, const uint8_t *record, size_t record_len
  * present, the main group first, then in the order in which they are sent. What is wrong with a
  * capture or a notification is a line `refused=` with the refusal's number.
  *
- * Parts are joined to records, and nothing tells the call which groups a machine sends. So if a
+ * Parts are joined into records, and nothing tells the call which groups a machine sends. So if a
  * notification is missing from the capture, a record can lack groups or mix those of two records,
  * and no line says so; parts at the end without their last part are not listed.
  *
@@ -89,9 +88,9 @@ uint32_t hordivasz_list(const uint8_t *capture, size_t capture_length, uint8_t *
                         size_t out_length, size_t *length);
 
 /*
- * How many octets the listing of a capture has: what to lend to hordivasz_list. It goes through the
- * whole capture. It is 0 if there is neither a whole record nor a refusal; point to an octet of
- * yours all the same.
+ * How many octets the listing of a capture has: the size of the buffer to pass to hordivasz_list. It
+ * goes through the whole capture. It is 0 if there is neither a whole record nor a refusal; the
+ * pointer must not be null even then.
  */
 size_t hordivasz_list_length(const uint8_t *capture, size_t capture_length);
 

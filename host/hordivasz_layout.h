@@ -19,10 +19,10 @@
 /* No record has more parts, at any payload. */
 #define HORDIVASZ_MOST_PARTS 3u
 
-/* No record of any kind has more octets as one notification. */
+/* No record, sent as one notification, has more octets. */
 #define HORDIVASZ_LONGEST_RECORD 41u
 
-/* Longer notifications and captures are refused, 30 and 36. */
+/* Longer notifications are refused with 30, longer captures with 36. */
 #define HORDIVASZ_LONGEST_NOTIFICATION 512u
 #define HORDIVASZ_LONGEST_CAPTURE 65536u
 

@@ -63,9 +63,9 @@ def sizes():
          ("least payload", LEAST_PAYLOAD), ("greatest payload", GREATEST_PAYLOAD))
     said("No record has more parts, at any payload.",
          ("most parts", max(len(part_sets(kind, all_groups(kind), LEAST_PAYLOAD)) for kind in KINDS)))
-    said("No record of any kind has more octets as one notification.",
+    said("No record, sent as one notification, has more octets.",
          ("longest record", max(length_of(kind, bits) for kind, bits in everything.items())))
-    said("Longer notifications and captures are refused, 30 and 36.",
+    said("Longer notifications are refused with 30, longer captures with 36.",
          ("longest notification", LONGEST_NOTIFICATION), ("longest capture", LONGEST_CAPTURE))
 
 

@@ -175,5 +175,5 @@ def try_larger(copy, source, asked):
                 judged += 1
                 rows.append(row(rule, f"`{site.place}`", f"`{short(site.old)}` → `{short(new)}`", told(verdict, where)))
     print(f"seed {asked.seed}: " + ", ".join(f"{n} {verdict}" for verdict, n in sorted(tally.items())))
-    write(asked, f"The sample of {EACH * len(RULES)} edits that are no single token", [("", ["rule", "place", "edit", "first refused at"], rows)])
+    write(asked, f"The sample of {EACH * len(RULES)} edits of more than one token", [("", ["rule", "place", "edit", "first refused at"], rows)])
     return tally.keys() <= {"refused", "no program"}

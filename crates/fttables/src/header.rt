@@ -62,9 +62,9 @@ fn print_numbers() {
     print_macro(b"GREATEST_PAYLOAD", GREATEST_PAYLOAD);
     print(b"\n/* No record has more parts, at any payload. */\n");
     print_macro(b"MOST_PARTS", all.parts);
-    print(b"\n/* No record of any kind has more octets as one notification. */\n");
+    print(b"\n/* No record, sent as one notification, has more octets. */\n");
     print_macro(b"LONGEST_RECORD", all.length);
-    print(b"\n/* Longer notifications and captures are refused, 30 and 36. */\n");
+    print(b"\n/* Longer notifications are refused with 30, longer captures with 36. */\n");
     print_macro(b"LONGEST_NOTIFICATION", LONGEST);
     print_macro(b"LONGEST_CAPTURE", LONGEST_CAPTURE);
 }

@@ -14,7 +14,7 @@ ghost use Rattle.listing.specs.Listing.{listing, meant, answer-of, lent-after};
 ghost use Rattle.phone.specs.Host.{code, told, split-answer, split-lent};
 
 // One part, counted from 0, of the record that a notification of the kind holds, split at a payload: its octets, its length and the number
-// of parts. Refusals, in this order: 11, 12, 30, 31, 32, 13, 15, 14.
+// of parts. Refusals, in this order: 11, 12, 30, 31, 32, 13, 15, 14. In C a slice is two arguments, a pointer and a length.
 #[no_mangle]
 pub extern "C" fn hordivasz_split(
     kind: u32,

@@ -50,7 +50,7 @@ cut kind room set (suc n) =
     let more : List ℕ = first ∷ cut kind room (set - first) n in
     cond (fits kind (1 + set) room) ((1 + set) ∷ []) more
 
--- the sets of the parts of a record at a payload: no record has more than sixteen
+-- the sets of the parts of a record at a payload; sixteen bounds the recursion, and no record has more than three parts
 abbrev pub sets-of : ℕ → ℕ → ℕ → List ℕ
 sets-of kind groups payload = cut kind (payload - flags-octets kind) groups 16
 

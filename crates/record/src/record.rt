@@ -1,4 +1,4 @@
-// A record, with a named and typed field for each value that a reader looks for.
+// A record, with a named and typed field for each value.
 
 // In tenths of a percent.
 pub struct Inclination(pub i16);

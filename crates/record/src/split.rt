@@ -41,7 +41,7 @@ pub fn is_payload(payload: usize) -> bool
     LEAST_PAYLOAD <= payload && payload <= GREATEST_PAYLOAD
 }
 
-// No record has more parts than this.
+// The bound of loops over parts; no record has more than three.
 pub const MOST_PARTS: usize = 16;
 
 // A part's length in octets, and the number of parts of its record.

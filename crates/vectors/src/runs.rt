@@ -92,7 +92,7 @@ fn print_back(equal: bool) {
     print_either(equal, b"back=equal\n", b"back=different\n");
 }
 
-// Runs the parts of a record up to the last; no record has more than sixteen.
+// Runs the parts of a record up to the last; sixteen is a bound that no record reaches.
 fn run_record(r: Record, payload: usize) {
     let mut held = [0u32; 31];
     let mut groups: u32 = 0;
