@@ -13,10 +13,10 @@
  * Compile with the headers of the library's own version: a later one may have larger sizes.
  *
  * What a host must not do: pass a null pointer, even with a length of 0 (pass the address of any
- * octet of yours); pass buffers or numbers that overlap, except buffers that are only read; pass the
- * same pointer as `length` and `parts`; change a buffer before the call returns; or give a length
- * above the buffer's own. The library cannot detect these, and promises nothing after them. Any
- * octets, kind, payload, part and number of octets may be passed.
+ * octet of yours); pass buffers or numbers that overlap, except buffers that are only read; pass
+ * the same pointer as `length` and `parts`; change a buffer before the call returns; or give a
+ * length above the buffer's own. The library cannot detect these, and promises nothing after them.
+ * Any octets, kind, payload, part and number of octets may be passed.
  *
  * Copyright (c) 2026 the Hordivasz maintainers; see LICENSE.
  */
@@ -88,8 +88,8 @@ uint32_t hordivasz_list(const uint8_t *capture, size_t capture_length, uint8_t *
                         size_t out_length, size_t *length);
 
 /*
- * How many octets the listing of a capture has: the size of the buffer to pass to hordivasz_list. It
- * goes through the whole capture. It is 0 if there is neither a whole record nor a refusal; the
+ * How many octets the listing of a capture has: the size of the buffer to pass to hordivasz_list.
+ * It goes through the whole capture. It is 0 if there is neither a whole record nor a refusal; the
  * pointer must not be null even then.
  */
 size_t hordivasz_list_length(const uint8_t *capture, size_t capture_length);
