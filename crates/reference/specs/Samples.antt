@@ -84,3 +84,10 @@ pub whole-samples :
     (whole-length 5 ≡ 16 + 16 - 2) × (whole-length 6 ≡ 30)
 unfolding layout tables treadmill cross-trainer step-climber stair-climber rower indoor-bike has named size groups-of listed hex kind-word whole-length capitals prefix all-macro
 whole-samples = (refl, refl, refl, refl, refl, refl, refl)
+
+-- each kind under its own name: "1 treadmill", "2 cross trainer", "3 step climber", "4 stair climber", "5 rower", "6 indoor bike"
+pub kind-samples :
+    (title 1 ≡ ascii "# Kind 1: treadmill\n\n") × (title 2 ≡ ascii "# Kind 2: cross trainer\n\n") × (title 3 ≡ ascii "# Kind 3: step climber\n\n") ×
+    (title 4 ≡ ascii "# Kind 4: stair climber\n\n") × (title 5 ≡ ascii "# Kind 5: rower\n\n") × (title 6 ≡ ascii "# Kind 6: indoor bike\n\n")
+unfolding decimal kind-word title
+kind-samples = (refl, refl, refl, refl, refl, refl)
