@@ -3,6 +3,7 @@ pub mod Parameters
 pub mod OpCodes
 pub mod Ranges
 pub mod Counted
+pub mod SpinDown
 pub mod Machine
 pub mod Judging
 pub mod Effects

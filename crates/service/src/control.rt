@@ -1,4 +1,5 @@
-// The control point: a console is opened, clients connect, write op codes and confirm responses. A console goes in and comes back by value.
+// The control point: a console is opened, clients connect, write op codes and confirm responses, and the flywheel's speeds are fed. A console goes in and
+// comes back by value.
 pub mod counted;
 mod effects;
 pub mod judging;
@@ -6,13 +7,12 @@ pub mod machine;
 pub mod op_codes;
 pub mod parameters;
 pub mod ranges;
+pub mod spin_down;
 
 use crate::control::counted::Counted;
 use crate::control::counted::none;
-use crate::control::counted::three;
 use crate::control::effects::perform;
 use crate::control::effects::setting;
-use crate::control::judging::WriteResult;
 use crate::control::machine::Machine;
 use crate::control::machine::Setup;
 use crate::control::machine::Who;
@@ -20,6 +20,8 @@ use crate::control::ranges::HeartRateRange;
 use crate::control::ranges::Ranges;
 use crate::control::ranges::SignedRange;
 use crate::control::ranges::SpeedRange;
+use crate::control::spin_down::TargetSpeeds;
+use crate::control::spin_down::feed;
 use record::feature::Feature;
 use record::feature::FeatureAnswer;
 use record::refusal::Refusal;
@@ -27,10 +29,10 @@ ghost use mathlib.Core.Path.{_≡_};
 ghost use Prim.Native.Nat.{_≤_};
 ghost use Rattle.record.specs.Refusal.{number-of};
 ghost use Rattle.service.specs.Control.Counted.{boxed};
-ghost use Rattle.service.specs.Control.Effects.{response-octets, setting as Effects·setting};
+ghost use Rattle.service.specs.Control.Effects.{setting as Effects·setting};
 ghost use Rattle.service.specs.Control.Console.{first, closed as Console·closed, client-at, with-client};
 ghost use Rattle.service.specs.Control.Replies.{Says, refuses, accepts};
-ghost use Rattle.service.specs.Control.Calls.{opening, opens, connects, disconnects, indicates, confirms, answers, writes};
+ghost use Rattle.service.specs.Control.Calls.{opening, opens, connects, disconnects, indicates, confirms, answers, writes, feeds};
 
 // Whether a client is connected, and whether its indications are on.
 pub struct Client {
@@ -99,7 +101,7 @@ fn opened(setup: Setup) -> Console
     }
 }
 
-// The console in a reply that refuses to open one: it supports no target setting, and every range is 0 to 0.
+// The console in a reply that refuses to open one: it supports no target setting, every range is 0 to 0, and so are the target speeds.
 fn closed() -> Console
     ensures { λ r. ⌜ r ≡ Console·closed ⌝ }
 {
@@ -124,20 +126,18 @@ fn closed() -> Console
         features: 0,
         targets: 0,
     };
-    opened(Setup { feature, ranges })
-}
-
-// "Response: 80, op code, result."
-fn response(op: u8, result: WriteResult) -> Counted
-    ensures { λ r. ⌜ r ≡ boxed (response-octets op result) ⌝ }
-{
-    three(0x80, op, result.number())
+    let speeds = TargetSpeeds { low: 0, high: 0 };
+    opened(Setup {
+        feature,
+        ranges,
+        speeds,
+    })
 }
 
 impl Console {
-    // Opens a console with the octets of a Feature value and the machine's ranges; refuses with 22, then 16.
-    pub fn open(feature: &[u8], ranges: Ranges) -> Reply
-        ensures { λ r. ⌜ Says r (opens (opening (now (feature .entry)) ranges)) ⌝ }
+    // Opens a console with the octets of a Feature value, the machine's ranges and its target speeds; refuses with 22, then 16.
+    pub fn open(feature: &[u8], ranges: Ranges, speeds: TargetSpeeds) -> Reply
+        ensures { λ r. ⌜ Says r (opens (opening (now (feature .entry)) ranges speeds)) ⌝ }
     {
         match Feature::from_octets(feature) {
             FeatureAnswer::Refused(why) => refused(closed(), why),
@@ -145,6 +145,7 @@ impl Console {
                 let setup = Setup {
                     feature: value,
                     ranges,
+                    speeds,
                 };
                 if setup.is_usable() {
                     return accepted(opened(setup));
@@ -287,8 +288,7 @@ impl Console {
     {
         let clients = self.clients;
         let performed = perform(self.machine, client, op, p);
-        let result = performed.result;
-        let response = response(op, result);
+        let response = performed.response;
         let status = performed.status;
         let machine = performed.machine;
         Reply {
@@ -299,6 +299,28 @@ impl Console {
                 machine,
                 clients,
                 awaited: Who::Client(client),
+            },
+        }
+    }
+
+    // A speed of the flywheel leads a run of spin down, and does nothing outside one; no client makes this call, and it is never refused.
+    pub fn flywheel(self, speed: u16) -> Reply
+        ensures { λ r. ⌜ Says r (feeds self speed) ⌝ }
+    {
+        let clients = self.clients;
+        let awaited = self.awaited;
+        let run = self.machine.run;
+        let fed = feed(self.machine.setup.speeds, run, speed);
+        let status = fed.status;
+        let machine = self.machine.spinning(fed.run);
+        Reply {
+            outcome: Outcome::Done,
+            response: none(),
+            status,
+            console: Console {
+                machine,
+                clients,
+                awaited,
             },
         }
     }

@@ -24,21 +24,21 @@ use Rattle.service.proofs.ControlLaws.Boxes.{counts}
 -- ---- opening
 
 abbrev pub setup-of : Feature → Opening → Setup
-setup-of f o = record { feature = f; ranges = o .ranges }
+setup-of f o = record { feature = f; ranges = o .ranges; speeds = o .speeds }
 
 module _ (o : Opening) where
   pub opens-22 : (n : ℕ) → feature-of (o .feature) ≡ refused n → opened o ≡ refused n
   unfolding opened
-  opens-22 n e = ap (λ (x : Answer Feature). open-with x (o .ranges)) e
+  opens-22 n e = ap (λ (x : Answer Feature). open-with x (o .ranges) (o .speeds)) e
 
   module _ (f : Feature) (e : feature-of (o .feature) ≡ given f) where
     pub opens-16 : usable (setup-of f o) ≡ false → opened o ≡ refused 16
     unfolding opened
-    opens-16 u = ap (λ (x : Answer Feature). open-with x (o .ranges)) e ∙ rw u
+    opens-16 u = ap (λ (x : Answer Feature). open-with x (o .ranges) (o .speeds)) e ∙ rw u
 
     pub opens-with : usable (setup-of f o) ≡ true → opened o ≡ given (first (setup-of f o))
     unfolding opened
-    opens-with u = ap (λ (x : Answer Feature). open-with x (o .ranges)) e ∙ rw u
+    opens-with u = ap (λ (x : Answer Feature). open-with x (o .ranges) (o .speeds)) e ∙ rw u
 
 -- ---- replies
 

@@ -2,7 +2,7 @@
 use Prim.Native.Nat.{ℕ, _≤_}
 use mathlib.Core.Path.{_≡_, refl, sym, _∙_}
 use mathlib.Core.Bool.{Bool, true, false, true≢false}
-use mathlib.Core.List.{List, []}
+use mathlib.Core.List.{List, [], _++_}
 use lib.Dec.{eqb}
 use lib.ListN.{length}
 use Rattle.record.specs.Octets.{number}
@@ -18,7 +18,8 @@ use Rattle.service.specs.Control.OpCodes.{op-code}
 use Rattle.service.specs.Control.Parameters.{size}
 use Rattle.service.specs.Control.Counted.{boxed}
 use Rattle.service.specs.Control.Judging.{succeeds, supports, controls, fit, fails, first-of, judged}
-use Rattle.service.specs.Control.Effects.{Room, done, status-octets, performs}
+use Rattle.service.specs.Control.SpinDown.{followed-by}
+use Rattle.service.specs.Control.Effects.{Room, response-octets, done, status-octets, performs}
 use Rattle.service.proofs.ControlLaws.Rule.{size-most, room-for}
 
 module _ (ranges : Ranges) (x : OpCode) (p : List ℕ) (g : fit ranges x p ≡ true) where
@@ -88,13 +89,18 @@ success-of OperationFailed e = absurd (true≢false (sym e))
 success-of ControlNotPermitted e = absurd (true≢false (sym e))
 
 module _ (m : Machine) (c o : ℕ) (p : List ℕ) where
-  pub performs-unknown : op-code o ≡ Unknown → performs m c o p ≡ record { result = NotSupported; status = boxed []; machine = m }
+  pub performs-unknown : op-code o ≡ Unknown → performs m c o p ≡ record { response = boxed (response-octets o NotSupported); status = boxed []; machine = m }
   performs-unknown e = rw e
 
   module _ (x : OpCode) (e : op-code o ≡ Known x) where
     pub performs-granted : succeeds (judged m c x p) ≡ true →
-        performs m c o p ≡ record { result = Success; status = boxed (status-octets (x .status) p); machine = done m c (x .act) p }
+        performs m c o p ≡ record {
+          response = boxed (response-octets o Success ++ followed-by (m .setup .speeds) (x .act) (number 1 p));
+          status = boxed (status-octets (x .status) p);
+          machine = done m c (x .act) p;
+        }
     performs-granted s = rw (e, success-of (judged m c x p) s)
 
-    pub performs-denied : succeeds (judged m c x p) ≡ false → performs m c o p ≡ record { result = judged m c x p; status = boxed []; machine = m }
+    pub performs-denied : succeeds (judged m c x p) ≡ false →
+        performs m c o p ≡ record { response = boxed (response-octets o (judged m c x p)); status = boxed []; machine = m }
     performs-denied s = rw (e, s)

@@ -1,7 +1,7 @@
--- The calls: "Calls: connect, disconnect, indications on and off, write, confirm."
+-- The calls: "Calls: connect, disconnect, indications on and off, write, confirm." W-201: "A new call feeds the flywheel speed u16".
 use Prim.Native.Nat.{ℕ}
 use mathlib.Core.Bool.{Bool, true, false, cond, not}
-use mathlib.Core.List.{List}
+use mathlib.Core.List.{List, []}
 use lib.Dec.{eqb, ltb}
 use lib.ListN.{length, getD, set, drop}
 use Rattle.record.specs.declared.feature.Feature.{Feature}
@@ -10,28 +10,30 @@ use Rattle.record.specs.Feature.{feature-of}
 use Rattle.service.specs.declared.control.Console.{Console}
 use Rattle.service.specs.declared.control.ranges.Ranges.{Ranges}
 use Rattle.service.specs.declared.control.machine.Setup.{Setup}
+use Rattle.service.specs.declared.control.spin_down.TargetSpeeds.{TargetSpeeds}
 use Rattle.service.specs.declared.control.machine.Who.the-variants.{Nobody, Client}
-use Rattle.service.specs.Control.Machine.{usable, is, someone, without, freed}
-use Rattle.service.specs.Control.Judging.{result}
-use Rattle.service.specs.Control.Effects.{response-octets, status-after, machine-after}
-use Rattle.service.specs.Control.Console.{absent, is-connected, is-indicating, with-client, awaiting, first, closed}
+use Rattle.service.specs.Control.Machine.{usable, is, someone, without, freed, spinning}
+use Rattle.service.specs.Control.SpinDown.{said-at, run-at}
+use Rattle.service.specs.Control.Effects.{response-after, status-after, machine-after}
+use Rattle.service.specs.Control.Console.{absent, is-connected, is-indicating, with-client, with-machine, awaiting, first, closed}
 use Rattle.service.specs.Control.Replies.{Sent, refuses, accepts, responds}
 
--- "A machine is opened with a Feature value and its ranges.": the value is given as octets
+-- "A machine is opened with a Feature value and its ranges.": the value is given as octets. W-201: target speeds "fixed when the machine is opened"
 pub record Opening : Type 0 where
   pub feature : List ℕ
   pub ranges : Ranges
+  pub speeds : TargetSpeeds
 
-abbrev pub opening : List ℕ → Ranges → Opening
-opening s r = record { feature = s; ranges = r }
+abbrev pub opening : List ℕ → Ranges → TargetSpeeds → Opening
+opening s r t = record { feature = s; ranges = r; speeds = t }
 
 -- "opening a machine 22, 16"
-abbrev pub open-with : Answer Feature → Ranges → Answer Console
-open-with (refused n) r = refused n
-open-with (given f) r = let s : Setup = record { feature = f; ranges = r } in provided (usable s) 16 (given (first s))
+abbrev pub open-with : Answer Feature → Ranges → TargetSpeeds → Answer Console
+open-with (refused n) r t = refused n
+open-with (given f) r t = let s : Setup = record { feature = f; ranges = r; speeds = t } in provided (usable s) 16 (given (first s))
 
 unfoldable pub opened : Opening → Answer Console
-opened o = open-with (feature-of (o .feature)) (o .ranges)
+opened o = open-with (feature-of (o .feature)) (o .ranges) (o .speeds)
 
 abbrev pub open-reply : Answer Console → Answer Sent × Console
 open-reply (refused n) = refuses closed n
@@ -64,10 +66,11 @@ indicates k c on = of-connected k c (accepts (with-client k c (record { connecte
 unfoldable pub confirms : Console → ℕ → Answer Sent × Console
 confirms k c = of-connected k c (cond (not (is (k .awaited) c)) (refuses k 21) (accepts (awaiting k Nobody)))
 
--- "Response: 80, op code, result. Each then awaits confirmation; 02 to 05 change nothing else."
+-- "Response: 80, op code, result. Each then awaits confirmation; 02 to 05 change nothing else." W-201: "A successful start answers 80 13 01 followed
+-- by a low and a high target speed"
 abbrev pub answers : Console → ℕ → ℕ → List ℕ → Answer Sent × Console
 answers k c o p =
-    responds (response-octets o (result (k .machine) c o p)) (status-after (k .machine) c o p)
+    responds (response-after (k .machine) c o p) (status-after (k .machine) c o p)
     (record { machine = machine-after (k .machine) c o p; clients = k .clients; awaited = Client c })
 
 -- "A write is judged in this order: 10, 17, 18, 19, 20", then by its result. "20: a response awaits confirmation", any client's
@@ -78,3 +81,9 @@ writes k c s =
     (cond (not (is-indicating k c)) (refuses k 19)
     (cond (someone (k .awaited)) (refuses k 20)
     (answers k c (getD s 0 0) (drop 1 s)))))
+
+-- "A new call feeds the flywheel speed u16": it has no client and is never refused
+unfoldable pub feeds : Console → ℕ → Answer Sent × Console
+feeds k v =
+    let t : TargetSpeeds = k .machine .setup .speeds in
+    responds [] (said-at t (k .machine .run) v) (with-machine k (spinning (k .machine) (run-at t (k .machine .run) v)))

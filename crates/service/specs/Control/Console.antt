@@ -6,6 +6,7 @@ use lib.ListN.{getD, set, replicate}
 use Rattle.service.specs.declared.control.Client.{Client}
 use Rattle.service.specs.declared.control.Console.{Console}
 use Rattle.service.specs.declared.control.machine.Setup.{Setup}
+use Rattle.service.specs.declared.control.machine.Machine.{Machine}
 use Rattle.service.specs.declared.control.machine.Who.{Who}
 use Rattle.service.specs.declared.control.machine.Who.the-variants.{Nobody}
 use Rattle.service.specs.Control.Machine.{fresh}
@@ -36,7 +37,11 @@ awaiting k w = record { machine = k .machine; clients = k .clients; awaited = w 
 abbrev pub first : Setup → Console
 first s = record { machine = fresh s; clients = replicate 4 absent; awaited = Nobody }
 
--- the console in a reply that refuses to open one: no target setting, and every range is 0 to 0
+-- the console with a new state of its machine
+abbrev pub with-machine : Console → Machine → Console
+with-machine k m = record { machine = m; clients = k .clients; awaited = k .awaited }
+
+-- the console in a reply that refuses to open one: no target setting, every range is 0 to 0, and so are the target speeds
 abbrev pub closed : Console
 closed = first (record {
   feature = record { features = 0; targets = 0 };
@@ -47,4 +52,5 @@ closed = first (record {
     power = record { least = pos 0; greatest = pos 0 };
     «heart_rate» = record { least = 0; greatest = 0 };
   };
+  speeds = record { low = 0; high = 0 };
 })

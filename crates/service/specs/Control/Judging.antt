@@ -1,5 +1,5 @@
 -- "unsupported op code, result 02; not the holder (but for 00), 05; wrong length, value outside its range or 08 with neither 1 nor 2, result 03;
--- then 04 when 00 finds another holder, 07 finds running, 08 with 1 finds stopped, or 08 with 2 finds anything but running; else 01."
+-- then 04 when 00 finds another holder, 07 finds running, 08 with 1 finds stopped, or 08 with 2 finds anything but running; else 01." W-201: "result 03 for neither 1 nor 2, 04 for a start during a run".
 use Prim.Native.Nat.{ℕ}
 use mathlib.Core.Bool.{Bool, true, false, cond, not, _&&_}
 use mathlib.Core.List.{List}
@@ -17,7 +17,7 @@ use Rattle.service.specs.declared.control.op_codes.OpCode.{OpCode}
 use Rattle.service.specs.declared.control.op_codes.Need.{Need}
 use Rattle.service.specs.declared.control.op_codes.Need.the-variants.{Always, Bit}
 use Rattle.service.specs.declared.control.op_codes.Act.{Act}
-use Rattle.service.specs.declared.control.op_codes.Act.the-variants.{TakesControl, Resets, Starts, Halts, Stores}
+use Rattle.service.specs.declared.control.op_codes.Act.the-variants.{TakesControl, Resets, Starts, Halts, Stores, SpinsDown}
 use Rattle.service.specs.declared.control.op_codes.Lookup.{Lookup}
 use Rattle.service.specs.declared.control.op_codes.Lookup.the-variants.{Known, Unknown}
 use Rattle.service.specs.declared.control.judging.WriteResult.{WriteResult}
@@ -25,6 +25,8 @@ use Rattle.service.specs.declared.control.judging.WriteResult.the-varian
 use Rattle.service.specs.Control.Ranges.{allowed}
 use Rattle.service.specs.Control.OpCodes.{op-code}
 use Rattle.service.specs.Control.Parameters.{size}
+use Rattle.service.specs.declared.control.spin_down.Run.{Run}
+use Rattle.service.specs.Control.SpinDown.{on}
 use Rattle.service.specs.Control.Machine.{is, someone, without}
 
 -- document 01's number of each result
@@ -54,6 +56,7 @@ takes Resets = false
 takes Starts = false
 takes Halts = false
 takes (Stores at) = false
+takes SpinsDown = false
 
 -- the opposite of "not the holder (but for 00)"
 abbrev pub controls : Who → ℕ → Act → Bool
@@ -74,13 +77,18 @@ no-halt Stopped x = true
 no-halt Running x = false
 no-halt Paused x = not (eqb x 1)
 
--- "04 when 00 finds another holder, 07 finds running, .."
+-- W-201: "04 for a start during a run"
+abbrev pub no-start : Run → ℕ → Bool
+no-start r x = on r && eqb x 1
+
+-- "04 when 00 finds another holder, 07 finds running, .."; W-201: "04 for a start during a run"
 abbrev pub fails : Machine → ℕ → Act → ℕ → Bool
 fails m c TakesControl x = someone (without (m .holder) c)
 fails m c Resets x = false
 fails m c Starts x = runs (m .mode)
 fails m c Halts x = no-halt (m .mode) x
 fails m c (Stores at) x = false
+fails m c SpinsDown x = no-start (m .run) x
 
 -- "A write is judged in this order": the first that applies
 abbrev pub first-of : Bool → Bool → Bool → Bool → WriteResult

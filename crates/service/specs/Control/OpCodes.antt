@@ -14,7 +14,7 @@ use Rattle.service.specs.declared.control.op_codes.Bound.the-variants.{F
 use Rattle.service.specs.declared.control.op_codes.Status.{Status}
 use Rattle.service.specs.declared.control.op_codes.Status.the-variants.{Silent, Octet, Echo}
 use Rattle.service.specs.declared.control.op_codes.Act.{Act}
-use Rattle.service.specs.declared.control.op_codes.Act.the-variants.{TakesControl, Resets, Starts, Halts, Stores}
+use Rattle.service.specs.declared.control.op_codes.Act.the-variants.{TakesControl, Resets, Starts, Halts, Stores, SpinsDown}
 use Rattle.service.specs.declared.control.op_codes.Lookup.{Lookup}
 use Rattle.service.specs.declared.control.op_codes.Lookup.the-variants.{Known, Unknown}
 
@@ -34,7 +34,8 @@ at o p n b s a = record { op = o; code = known p n b s a }
 -- for each zone, 11 wind s16, grade s16, rolling u8, drag u8, 12 wheel u16, 14 cadence u16. 00, 01, 07, 08 are always supported; 02 to 06
 -- need target bits 0 to 4, 09 to 12 need 5 to 14, 14 needs 16." "Ranges .. exist for speed u16, inclination s16, resistance s16, power s16, heart
 -- rate u8." "Status octets: 01 gives 01; 07 gives 04; 08 gives 02 and its parameter; 02 to 06 give op code plus 3, 09 to 12 op code plus 1, 14
--- gives 15, each with the parameter. 00 gives none." The settings follow one another in the order of op codes.
+-- gives 15, each with the parameter. 00 gives none." The settings follow one another in the order of op codes. W-201: "Op code 13 becomes supported
+-- with target bit 15: parameter 1 starts, 2 ignores.", "a start or an ignore gives none".
 abbrev pub table : List Line
 table =
     at 0x00 Empty Always Free Silent TakesControl ∷
@@ -56,6 +57,7 @@ table =
     at 0x10 FiveZones (Bit 12) Free (Echo 0x11) (Stores 29) ∷
     at 0x11 Simulation (Bit 13) Free (Echo 0x12) (Stores 39) ∷
     at 0x12 (One U16) (Bit 14) Free (Echo 0x13) (Stores 45) ∷
+    at 0x13 (One U8) (Bit 15) OneOrTwo Silent SpinsDown ∷
     at 0x14 (One U16) (Bit 16) Free (Echo 0x15) (Stores 47) ∷ []
 
 -- what a table says about an op code

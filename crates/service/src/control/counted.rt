@@ -1,9 +1,9 @@
 // Octets with their count, as a reply returns them.
 ghost use mathlib.Core.Path.{_≡_};
-ghost use mathlib.Core.List.{[], _∷_};
+ghost use mathlib.Core.List.{[], _∷_, _++_};
 ghost use Prim.Native.Nat.{_+_, _≤_};
 ghost use lib.ListN.{length, take, drop};
-ghost use Rattle.record.specs.Octets.{placed};
+ghost use Rattle.record.specs.Octets.{placed, spelled};
 ghost use Rattle.service.specs.Control.Counted.{boxed};
 
 // The first `count` octets count; those past them are 0. The longest are a status octet and a parameter of ten.
@@ -56,6 +56,16 @@ pub(crate) fn one(x: u8) -> Counted
     }
 }
 
+// Two octets.
+pub(crate) fn two(x: u8, y: u8) -> Counted
+    ensures { λ r. ⌜ r ≡ boxed (x ∷ y ∷ []) ⌝ }
+{
+    Counted {
+        count: 2,
+        octets: [x, y, 0, 0, 0, 0, 0, 0, 0, 0, 0],
+    }
+}
+
 // Three octets.
 pub(crate) fn three(x: u8, y: u8, z: u8) -> Counted
     ensures { λ r. ⌜ r ≡ boxed (x ∷ y ∷ z ∷ []) ⌝ }
@@ -63,6 +73,20 @@ pub(crate) fn three(x: u8, y: u8, z: u8) -> Counted
     Counted {
         count: 3,
         octets: [x, y, z, 0, 0, 0, 0, 0, 0, 0, 0],
+    }
+}
+
+// Three octets and two words, each least octet first.
+pub(crate) fn three_and_words(x: u8, y: u8, z: u8, low: u16, high: u16) -> Counted
+    ensures { λ r. ⌜ r ≡ boxed (x ∷ y ∷ z ∷ spelled 2 low ++ spelled 2 high) ⌝ }
+{
+    let a = (low % 256) as u8;
+    let b = (low / 256 % 256) as u8;
+    let c = (high % 256) as u8;
+    let d = (high / 256 % 256) as u8;
+    Counted {
+        count: 7,
+        octets: [x, y, z, a, b, c, d, 0, 0, 0, 0],
     }
 }
 

@@ -7,10 +7,11 @@ use crate::control::op_codes::Need;
 use crate::control::op_codes::OpCode;
 use crate::control::ranges::Ranges;
 use crate::control::ranges::allowed;
+use crate::control::spin_down::Run;
 use record::feature::Feature;
 use record::octets::u8_at;
 ghost use mathlib.Core.Path.{_≡_};
-ghost use Rattle.service.specs.Control.Judging.{result-number, succeeds, supports as Judging·supports, controls as Judging·controls, fit as Judging·fit, no-halt, runs, fails as Judging·fails, first-of, judged as Judging·judged};
+ghost use Rattle.service.specs.Control.Judging.{result-number, succeeds, supports as Judging·supports, controls as Judging·controls, fit as Judging·fit, no-halt, no-start, runs, fails as Judging·fails, first-of, judged as Judging·judged};
 
 // The result of a write.
 pub enum WriteResult {
@@ -69,6 +70,7 @@ fn controls(holder: Who, client: u8, act: Act) -> bool
         Act::Starts => held,
         Act::Halts => held,
         Act::Stores(_) => held,
+        Act::SpinsDown => held,
     }
 }
 
@@ -105,18 +107,31 @@ fn is_running(mode: Mode) -> bool
     }
 }
 
+// "04 for a start during a run"
+fn cannot_start(run: Run, x: u8) -> bool
+    ensures { λ r. ⌜ r ≡ no-start run x ⌝ }
+{
+    match run {
+        Run::Off => false,
+        Run::Quiet => x == 1,
+        Run::Warned => x == 1,
+    }
+}
+
 // Whether the result is 04, if it is not 02, 05 or 03.
 fn fails(machine: Machine, client: u8, act: Act, x: u8) -> bool
     ensures { λ r. ⌜ r ≡ Judging·fails machine client act x ⌝ }
 {
     let holder = machine.holder;
     let mode = machine.mode;
+    let run = machine.run;
     match act {
         Act::TakesControl => holder.without(client).is_someone(),
         Act::Resets => false,
         Act::Starts => is_running(mode),
         Act::Halts => cannot_halt(mode, x),
         Act::Stores(_) => false,
+        Act::SpinsDown => cannot_start(run, x),
     }
 }
 

@@ -1,13 +1,15 @@
-// The machine that op codes act on: what it was opened with, who holds control, its mode, and its settings.
+// The machine that op codes act on: what it was opened with, who holds control, its mode, its settings, and its run of spin down.
 use crate::control::counted::put;
 use crate::control::ranges::Ranges;
 use crate::control::ranges::are_ranges;
+use crate::control::spin_down::Run;
+use crate::control::spin_down::TargetSpeeds;
 use record::feature::Feature;
 ghost use mathlib.Core.Path.{_≡_};
 ghost use Prim.Native.Nat.{_+_, _≤_};
 ghost use lib.ListN.{length};
 ghost use Rattle.record.specs.Octets.{placed};
-ghost use Rattle.service.specs.Control.Machine.{usable, is as Machine·is, someone, without as Machine·without, fresh as Machine·fresh, held-by, freed as Machine·freed, going as Machine·going, storing as Machine·storing, cleared};
+ghost use Rattle.service.specs.Control.Machine.{usable, is as Machine·is, someone, without as Machine·without, fresh as Machine·fresh, held-by, spinning as Machine·spinning, freed as Machine·freed, going as Machine·going, storing as Machine·storing, cleared};
 
 // Nobody, or a client by its number.
 pub enum Who {
@@ -21,10 +23,11 @@ pub enum Mode {
     Paused,
 }
 
-// What a machine is opened with: "A machine is opened with a Feature value and its ranges."
+// What a machine is opened with: "A machine is opened with a Feature value and its ranges.", and target speeds, "fixed when the machine is opened".
 pub struct Setup {
     pub feature: Feature,
     pub ranges: Ranges,
+    pub speeds: TargetSpeeds,
 }
 
 // What op codes act on. The sixteen settings follow one another in the order of op codes, in 49 octets.
@@ -33,6 +36,7 @@ pub struct Machine {
     pub holder: Who,
     pub mode: Mode,
     pub settings: [u8; 49],
+    pub run: Run,
 }
 
 impl Setup {
@@ -40,7 +44,11 @@ impl Setup {
     pub(crate) fn is_usable(self) -> bool
         ensures { λ r. ⌜ r ≡ usable self ⌝ }
     {
-        are_ranges(self.ranges)
+        let speeds = self.speeds;
+        if are_ranges(self.ranges) {
+            return speeds.are_in_order();
+        }
+        false
     }
 }
 
@@ -85,6 +93,7 @@ impl Machine {
             holder: Who::Nobody,
             mode: Mode::Stopped,
             settings: [0u8; 49],
+            run: Run::Off,
         }
     }
 
@@ -95,21 +104,44 @@ impl Machine {
         let setup = self.setup;
         let mode = self.mode;
         let settings = self.settings;
+        let run = self.run;
         Machine {
             setup,
             holder,
             mode,
             settings,
+            run,
         }
     }
 
-    // A client leaves: "Disconnect frees control held by that client".
+    // The run of spin down starts, goes on or is over.
+    pub(crate) fn spinning(self, run: Run) -> Machine
+        ensures { λ r. ⌜ r ≡ Machine·spinning self run ⌝ }
+    {
+        let setup = self.setup;
+        let holder = self.holder;
+        let mode = self.mode;
+        let settings = self.settings;
+        Machine {
+            setup,
+            holder,
+            mode,
+            settings,
+            run,
+        }
+    }
+
+    // A client leaves: "Disconnect frees control held by that client", and "disconnect of the holder .. ends a run".
     pub(crate) fn freed(self, client: u8) -> Machine
         ensures { λ r. ⌜ r ≡ Machine·freed self client ⌝ }
     {
         let held = self.holder;
         let holder = held.without(client);
-        self.held(holder)
+        let free = self.held(holder);
+        if held.is(client) {
+            return free.spinning(Run::Off);
+        }
+        free
     }
 
     // The machine stops, runs or pauses.
@@ -119,11 +151,13 @@ impl Machine {
         let setup = self.setup;
         let holder = self.holder;
         let settings = self.settings;
+        let run = self.run;
         Machine {
             setup,
             holder,
             mode,
             settings,
+            run,
         }
     }
 
@@ -138,7 +172,7 @@ impl Machine {
         self
     }
 
-    // "01 zeroes every setting, stops and frees control".
+    // "01 zeroes every setting, stops and frees control", and "Reset .. ends a run".
     pub(crate) fn reset(self) -> Machine
         ensures { λ r. ⌜ r ≡ cleared self ⌝ }
     {

@@ -1,6 +1,7 @@
 // The table of op codes, one line per op code.
 use crate::control::op_codes::Act::Halts;
 use crate::control::op_codes::Act::Resets;
+use crate::control::op_codes::Act::SpinsDown;
 use crate::control::op_codes::Act::Starts;
 use crate::control::op_codes::Act::Stores;
 use crate::control::op_codes::Act::TakesControl;
@@ -51,13 +52,15 @@ pub enum Status {
     Echo(u8),
 }
 
-// What success does: gives control, resets, starts, stops or pauses, or stores the parameter among the settings from an index on.
+// What success does: gives control, resets, starts, stops or pauses, stores the parameter among the settings from an index on, or starts or ignores a
+// run of spin down.
 pub enum Act {
     TakesControl,
     Resets,
     Starts,
     Halts,
     Stores(u8),
+    SpinsDown,
 }
 
 // What the table says about an op code.
@@ -127,6 +130,7 @@ pub fn op_code(op: u8) -> Lookup
         0x10 => target(FiveZones, 12, Free, 0x11, 29),
         0x11 => target(Simulation, 13, Free, 0x12, 39),
         0x12 => target(U16, 14, Free, 0x13, 45),
+        0x13 => line(U8, Bit(15), OneOrTwo, Silent, SpinsDown),
         0x14 => target(U16, 16, Free, 0x15, 47),
         _ => Lookup::Unknown,
     }

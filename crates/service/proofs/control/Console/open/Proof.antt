@@ -18,21 +18,21 @@ returns c =
     let u = c .before .before .before in
     let v = u .before .before in
     let a = v .before .before .before .before .args in
-    rw (opens-with (opening (now (a .feature)) (a .ranges)) _ (found v) (sym (u .is-usable .ensures) ∙ c .before .before .if1 .taken), ← (c .before .opened .ensures)) (c .accepted .ensures)
+    rw (opens-with (opening (now (a .feature)) (a .ranges) (a .speeds)) _ (found v) (sym (u .is-usable .ensures) ∙ c .before .before .if1 .taken), ← (c .before .opened .ensures)) (c .accepted .ensures)
 
 returns-2 : tie.Need-returns-2
 returns-2 c =
     let w = c .before .before .before in
     let o = w .before .before in
     let a = o .before .before .args in
-    rw (opens-22 (opening (now (a .feature)) (a .ranges)) _ (sym (o .from-octets .ensures) ∙ ap meant (w .why .given .1)), ← (c .before .closed .ensures)) (c .refused .ensures)
+    rw (opens-22 (opening (now (a .feature)) (a .ranges) (a .speeds)) _ (sym (o .from-octets .ensures) ∙ ap meant (w .why .given .1)), ← (c .before .closed .ensures)) (c .refused .ensures)
 
 returns-3 : tie.Need-returns-3
 returns-3 c =
     let u = c .before .before .before in
     let v = u .before .before in
     let a = v .before .before .before .before .args in
-    rw (opens-16 (opening (now (a .feature)) (a .ranges)) _ (found v) (sym (u .is-usable .ensures) ∙ c .before .before .if1 .left), ← (c .before .closed2 .ensures)) (c .refused2 .ensures)
+    rw (opens-16 (opening (now (a .feature)) (a .ranges) (a .speeds)) _ (found v) (sym (u .is-usable .ensures) ∙ c .before .before .if1 .left), ← (c .before .closed2 .ensures)) (c .refused2 .ensures)
 
 pub open-spec : {M : Type 1} → statement M
 open-spec =

@@ -20,8 +20,10 @@ part-spec =
     (λ c. search needs)
     (λ c. search needs)
     kept-requires
+    (λ c. search needs)
     (λ c. rw (c .enum-told .given .1) (c .before .before .none .ensures))
     (λ c. rw (c .enum-told2 .given .1) (c .before .before .none .ensures))
     (λ c. rw (c .enum-told3 .given .1) (c .before .before .none .ensures))
     (λ c. rw (c .enum-told4 .given .1) (c .before .before .none .ensures))
-    (λ c. rw (c .before .before .act .given .1) (c .kept .ensures)))
+    (λ c. rw (c .before .before .act .given .1) (c .kept .ensures))
+    (λ c. rw (c .enum-told5 .given .1) (c .before .before .none .ensures)))

@@ -8,6 +8,7 @@ use Rattle.service.specs.declared.control.judging.WriteResult.{WriteResu
 use Rattle.service.specs.Control.OpCodes.{op-code}
 use Rattle.service.specs.Control.Counted.{boxed}
 use Rattle.service.specs.Control.Judging.{succeeds}
+use Rattle.service.specs.Control.Effects.{response-octets}
 use Rattle.service.proofs.ControlLaws.Fits.{granted-so, short, room-fit, performs-unknown, performs-granted, performs-denied}
 use Rattle.service.proofs.control.effects.perform.Statement.{statement}
 use Rattle.service.proofs.control.effects.perform.Tie as tie
@@ -45,7 +46,7 @@ returns-2 : tie.Need-returns-2
 returns-2 c =
     let q = c .before .before in
     let a = start q .args in
-    c .failed .ensures ∙ ap (λ (r : WriteResult). record { result = r; status = boxed []; machine = a .machine }) (q .before .judged .ensures) ∙
+    c .failed .ensures ∙ ap (λ (r : WriteResult). record { response = boxed (response-octets (a .op) r); status = boxed []; machine = a .machine }) (q .before .judged .ensures) ∙
     sym (performs-denied (a .machine) (a .client) (a .op) (now (a .p)) _ (found-so q) (rw (← (q .before .judged .ensures)) (sym (success-so q) ∙ c .before .if1 .left)))
 
 returns-3 : tie.Need-returns-3
