@@ -17,6 +17,7 @@ use Rattle.service.proofs.control.Console.disconnect.Reads as disconnec
 use Rattle.service.proofs.control.Console.indicate.Reads as indicate
 use Rattle.service.proofs.control.Console.confirm.Reads as confirm
 use Rattle.service.proofs.control.Console.write.Reads as write
+use Rattle.service.proofs.control.Console.flywheel.Reads as flywheel
 use Rattle.service.proofs.control.Console.setting.Reads as setting
 use Rattle.service.proofs.control.judging.WriteResult.number.Reads as number
 use Rattle.service.proofs.control.op_codes.op_code.Reads as op-code
@@ -42,8 +43,9 @@ reply-once x y z p q =
       console = same (p .means) (q .means) i .1;
     }
 
-pub calls-once : Once open-reads.Post × Once connect.Post × Once disconnect.Post × Once indicate.Post × Once confirm.Post × Once write.Post
+pub calls-once : Once open-reads.Post × Once connect.Post × Once disconnect.Post × Once indicate.Post × Once confirm.Post × Once write.Post × Once flywheel.Post
 calls-once = (
+  λ κs a x y s t. reply-once x y _,
   λ κs a x y s t. reply-once x y _,
   λ κs a x y s t. reply-once x y _,
   λ κs a x y s t. reply-once x y _,

@@ -309,13 +309,16 @@ impl Console {
     {
         let clients = self.clients;
         let awaited = self.awaited;
-        let run = self.machine.run;
-        let fed = feed(self.machine.setup.speeds, run, speed);
+        let before = self.machine;
+        let was = before.run;
+        let fed = feed(before.setup.speeds, was, speed);
         let status = fed.status;
-        let machine = self.machine.spinning(fed.run);
+        let run = fed.run;
+        let machine = before.spinning(run);
+        let nothing = none();
         Reply {
             outcome: Outcome::Done,
-            response: none(),
+            response: nothing,
             status,
             console: Console {
                 machine,
