@@ -7,6 +7,8 @@ pub mod Changes
 pub mod History
 pub mod Remembered
 pub mod Settings
+pub mod Spoken
+pub mod Runs
 pub mod Alive
 pub mod Cases
 pub mod Worked

@@ -2,6 +2,7 @@
 pub mod Point
 pub mod Laws
 pub mod History
+pub mod Runs
 pub mod Cases
 pub mod Worked
 pub mod Rules

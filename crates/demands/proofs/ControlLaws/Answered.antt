@@ -18,19 +18,24 @@ use Rattle.service.specs.declared.control.machine.Setup.{Setup}
 use Rattle.service.specs.declared.control.judging.WriteResult.{WriteResult}
 use Rattle.service.specs.declared.control.judging.WriteResult.the-variants.{Success, NotSupported, InvalidParameter, OperationFailed, ControlNotPermitted}
 use Rattle.service.specs.Control.Ranges.{are-ranges}
+use Rattle.service.specs.Control.OpCodes.{op-code}
+use Rattle.service.specs.Control.SpinDown.{in-order, on, said-at}
 use Rattle.service.specs.Control.Machine.{usable, is, someone}
 use Rattle.service.specs.Control.Judging.{result-number, succeeds, result}
-use Rattle.service.specs.Control.Effects.{status-after, response-octets}
+use Rattle.service.specs.Control.Effects.{response-after, status-after, success-followed}
 use Rattle.service.specs.Control.Console.{is-connected, is-indicating, first}
 use Rattle.service.specs.Control.Replies.{sent}
-use Rattle.service.specs.Control.Calls.{Opening, open-with, opened, connects, disconnects, indicates, confirms, writes}
+use Rattle.service.specs.Control.Calls.{Opening, open-with, opened, connects, disconnects, indicates, confirms, writes, feeds}
 use Rattle.service.proofs.ControlLaws.Answers.{setup-of}
-use Rattle.demands.specs.Control.Point.{Call, connect, disconnect, confirm, indicate, write, Point, service, Event, event, step, run}
-use Rattle.demands.specs.Control.Laws.{holder-by}
+use Rattle.demands.specs.Control.Point.{Call, connect, disconnect, confirm, indicate, write, flywheel, Point, service, Event, event, step, run}
+use Rattle.demands.specs.Control.Laws.{any, holder-by}
 use Rattle.demands.specs.Control.History.{mode-by, awaited-by, connected-by, indicating-by}
+use Rattle.demands.specs.Control.Runs.{Led, at-most, led-by, run-of}
 use Rattle.demands.specs.Control.Rules as rule
 use Rattle.demands.specs.Control.Answered.{response-by, answer-by, OctetIn, OctetsIn, reversed, refusal-by, AnswersByHistory}
-use Rattle.demands.proofs.ControlLaws.Rules.{status-so, result-so}
+use Rattle.demands.proofs.ControlLaws.Rules.{followed-so, status-so, result-so}
+use Rattle.demands.proofs.ControlLaws.Spoken.{on-of, said-so}
+use Rattle.demands.proofs.ControlLaws.Runs.{run-by-history}
 use Rattle.demands.proofs.ControlLaws.Changes.{fixed-at-opening}
 use Rattle.demands.proofs.ControlLaws.Kept.{run-keeps}
 use Rattle.demands.proofs.ControlLaws.History.{holder-by-history}
@@ -52,18 +57,23 @@ record Told (s : Setup) (past : List Event) (k : Console) : Type 0 where
   awaited-so : k .awaited ≡ awaited-by past
   connected-so : (c : ℕ) → is-connected k c ≡ connected-by c past
   indicating-so : (c : ℕ) → is-indicating k c ≡ indicating-by c past
+  run-so : k .machine .run ≡ run-of (s .speeds) (led-by (s .speeds) past)
 
 module _ (s : Setup) (past : List Event) (k : Console) (t : Told s past k) where
   response-so : (c o : ℕ) (p : List ℕ) → o ≤ 255 →
-      sent (response-octets o (result (k .machine) c o p)) (status-after (k .machine) c o p) ≡ response-by s past c o p
+      sent (response-after (k .machine) c o p) (status-after (k .machine) c o p) ≡ response-by s past c o p
   response-so c o p h =
       let r : WriteResult = result (k .machine) c o p in
-      let n : result-number r ≡ rule.result s (holder-by past []) (mode-by past) c o p =
-      result-so (k .machine) c p o h ∙ (λ i. rule.result (t .setup-so i) (t .holder-so i) (t .mode-so i) c o p) in
-      (λ i. sent (0x80 ∷ o ∷ n i ∷ []) (cond ((success-01 r ∙ ap (λ (x : ℕ). eqb x 0x01) n) i) (status-so p o h i) []))
+      let d : Led = led-by (s .speeds) past in
+      let g : on (k .machine .run) ≡ d .on = ap on (t .run-so) ∙ on-of (d .on) (any (at-most (s .speeds .high)) (d .speeds)) in
+      let n : result-number r ≡ rule.result s (holder-by past []) (mode-by past) (d .on) c o p =
+      result-so (k .machine) c p o h ∙ (λ i. rule.result (t .setup-so i) (t .holder-so i) (t .mode-so i) (g i) c o p) in
+      let y : success-followed (k .machine .setup .speeds) (op-code o) p ≡ rule.followed (s .speeds) o p =
+      followed-so (k .machine .setup .speeds) p o h ∙ ap (λ (x : Setup). rule.followed (x .speeds) o p) (t .setup-so) in
+      (λ i. sent (0x80 ∷ o ∷ n i ∷ cond ((success-01 r ∙ ap (λ (x : ℕ). eqb x 0x01) n) i) (y i) []) (cond ((success-01 r ∙ ap (λ (x : ℕ). eqb x 0x01) n) i) (status-so p o h i) []))
 
   answer-so : (q : Call) → OctetIn q → step k q .0 ≡ answer-by s past q
-  unfolding connects disconnects indicates confirms writes
+  unfolding connects disconnects indicates confirms writes feeds
   answer-so (connect c) h = elim (tested (ltb 3 c)) [
     | passed e ↦ rw e
     | failed e ↦ elim (tested (connected-by c past)) [
@@ -111,12 +121,14 @@ module _ (s : Setup) (past : List Event) (k : Console) (t : Told s past k) where
       ]
     ]
   ]
+  answer-so (flywheel v) h =
+      λ i. sent [] (((λ j. said-at (t .setup-so j .speeds) (t .run-so j) v) ∙ said-so (s .speeds) (led-by (s .speeds) past) v) i)
 
 -- the setup of a console is what it was opened with
 opened-so : (o : Opening) (f : Feature) (k : Console) → feature-of (o .feature) ≡ given f → opened o ≡ given k → k .machine .setup ≡ setup-of f o
 unfolding opened
 opened-so o f k e h =
-    let g : open-with (given f) (o .ranges) ≡ given k = ap (λ (a : Answer Feature). open-with a (o .ranges)) (sym e) ∙ h in
+    let g : open-with (given f) (o .ranges) (o .speeds) ≡ given k = ap (λ (a : Answer Feature). open-with a (o .ranges) (o .speeds)) (sym e) ∙ h in
     elim (tested (usable (setup-of f o))) [
       | passed u ↦ (let z : given (first (setup-of f o)) ≡ given k = rw u at g in let y : first (setup-of f o) ≡ k = cc in ap (λ (x : Console). x .machine .setup) (sym y))
       | failed u ↦ absurd (let z : _≡_ {A = Answer Console} (refused 16) (given k) = rw u at g in let y : _≡_ {A = ℕ} 0 1 = cc in omega arith)
@@ -164,8 +176,13 @@ unfolding opened
 outcome o = elim (tested (eqb (length (o .feature)) 8)) [
   | failed e ↦ refuses-so 21 (rw e) (rw e)
   | passed e ↦ elim (tested (are-ranges (o .ranges))) [
-    | passed u ↦ opens-so (first (setup-of (named (words (o .feature))) o)) (rw (e, ← reversed-so (o .ranges), u)) (rw (e, u))
     | failed u ↦ refuses-so 15 (rw (e, ← reversed-so (o .ranges), u)) (rw (e, u))
+    | passed u ↦ elim (tested (in-order (o .speeds))) [
+      | passed v ↦
+          opens-so (first (setup-of (named (words (o .feature))) o))
+          (rw (e, ← reversed-so (o .ranges), u, v)) (rw (e, u, v))
+      | failed v ↦ refuses-so 15 (rw (e, ← reversed-so (o .ranges), u, v)) (rw (e, u, v))
+    ]
   ]
 ]
 
@@ -192,6 +209,7 @@ answers-by-history = record {
     awaited-so = awaited-by-history o k h qs;
     connected-so = λ c. connected-by-history c o k h qs;
     indicating-so = λ c. indicating-by-history c o k h qs;
+    run-so = run-by-history .run-so o k h qs;
   }) q w;
 }
 

@@ -3,7 +3,7 @@
 use Prim.Native.Nat.{ℕ, _≤_}
 use mathlib.Core.Path.{_≡_, refl, sym, ap, _∙_}
 use mathlib.Core.Bool.{Bool, true, false, cond, _&&_}
-use mathlib.Core.List.{List, [], _∷_}
+use mathlib.Core.List.{List, [], _∷_, _++_}
 use native.Mathlib.Omega.{arith}
 use lib.Dec.{eqb}
 use Rattle.record.specs.declared.feature.Feature.{Feature}
@@ -14,7 +14,7 @@ use Rattle.service.specs.declared.control.machine.Machine.{Machine}
 use Rattle.service.specs.declared.control.machine.Who.{Who}
 use Rattle.service.specs.declared.control.machine.Who.the-variants.{Nobody, Client}
 use Rattle.service.specs.declared.control.op_codes.Act.{Act}
-use Rattle.service.specs.declared.control.op_codes.Act.the-variants.{TakesControl, Resets, Starts, Halts, Stores}
+use Rattle.service.specs.declared.control.op_codes.Act.the-variants.{TakesControl, Resets, Starts, Halts, Stores, SpinsDown}
 use Rattle.service.specs.declared.control.judging.WriteResult.the-variants.{Success}
 use Rattle.service.specs.Control.Machine.{without, held-by}
 use Rattle.service.specs.Control.Judging.{result-number, controls}
@@ -23,11 +23,11 @@ use Rattle.service.specs.Control.Console.{first}
 use Rattle.service.specs.Control.Replies.{Sent, sent}
 use Rattle.service.specs.Control.Calls.{Opening, opened, writes}
 use Rattle.service.proofs.ControlLaws.Answers.{setup-of}
-use Rattle.demands.specs.Control.Point.{Call, connect, disconnect, confirm, indicate, write, service, Event, event, step, run}
+use Rattle.demands.specs.Control.Point.{Call, connect, disconnect, confirm, indicate, write, flywheel, service, Event, event, step, run}
 use Rattle.demands.specs.Control.Laws.{by, result-in, succeeded, is-disconnect, ends, unless-ended, holder-by}
 use Rattle.demands.specs.Control.History.{HolderByHistory}
 use Rattle.demands.proofs.ControlLaws.Numbers.{Number, number-so, not-01}
-use Rattle.demands.proofs.ControlLaws.Steps.{responding, Stepped, refusal, connected, gone, indicated, confirmed, denied, granted, steps}
+use Rattle.demands.proofs.ControlLaws.Steps.{responding, Stepped, refusal, connected, gone, indicated, confirmed, denied, granted, fed, steps}
 use Rattle.demands.proofs.ControlLaws.Kept.{opened-first}
 use Rattle.demands.proofs.ControlLaws.Changes.{is-client}
 
@@ -66,14 +66,14 @@ unfolding next
 stays e Nobody s h = rw s
 stays e (Client c) s h = rw (s, h c)
 
-and-no : (x : Bool) → (x && false) ≡ false
+pub and-no : (x : Bool) → (x && false) ≡ false
 and-no true = refl
 and-no false = refl
 
 -- a write that succeeds
-module _ (m : Machine) (c o : ℕ) (p said : List ℕ) where
+module _ (m : Machine) (c o : ℕ) (p more said : List ℕ) where
   abbrev success-event : Event
-  success-event = event (write c (o ∷ p)) (sent (response-octets o Success) said)
+  success-event = event (write c (o ∷ p)) (sent (response-octets o Success ++ more) said)
 
   unmoved : 2 ≤ o → m .holder ≡ next success-event (m .holder)
   unmoved h = stays success-event (m .holder) (eqb-false (λ (e : o ≡ 0). omega arith)) (λ d. rw (eqb-false (λ (e : o ≡ 1). omega arith)))
@@ -85,6 +85,7 @@ module _ (m : Machine) (c o : ℕ) (p said : List ℕ) where
   next-done Starts n h = unmoved n
   next-done Halts n h = unmoved n
   next-done (Stores at) n h = unmoved n
+  next-done SpinsDown n h = unmoved n
 
 next-gone : (c : ℕ) (w : Who) → without w c ≡ next (event (disconnect c) (sent [] [])) w
 unfolding next
@@ -104,7 +105,17 @@ next-stepped k (indicated c on h e) = stays (event (indicate c on) (sent [] []))
 next-stepped k (confirmed c h e f) = stays (event (confirm c) (sent [] [])) (k .machine .holder) refl (λ d. refl)
 next-stepped k (denied c o p h r e) =
     stays (event (write c (o ∷ p)) (sent (response-octets o r) [])) (k .machine .holder) (rw (not-01 r e)) (λ d. rw (not-01 r e))
-next-stepped k (granted c o p h x e g) = next-done (k .machine) c o p _ (x .act) (number-so o x e) (g .controlled)
+next-stepped k (granted c o p h x e g) = next-done (k .machine) c o p _ _ (x .act) (number-so o x e) (g .controlled)
+next-stepped k (fed v) = stays (event (flywheel v) (sent [] _)) (k .machine .holder) refl (λ d. refl)
+
+-- the holder that the history says, after one more call
+pub holder-more : (k : Console) (past : List Event) (q : Call) → k .machine .holder ≡ holder-by past [] →
+    step k q .1 .machine .holder ≡ holder-by (event q (step k q .0) ∷ past) []
+unfolding recent
+holder-more k past q e =
+    let z : Event = event q (step k q .0) in
+    next-stepped k (steps k q) ∙ ap (next z) (e ∙ by-recent past [] ∙ none-ended (recent past)) ∙
+    sym (by-recent (z ∷ past) [] ∙ none-ended (recent (z ∷ past)))
 
 -- ---- sequences of calls
 
@@ -133,6 +144,7 @@ taken k c p h = from (steps k (write c (0x00 ∷ p))) h
     from-act Starts n = absurd (omega arith)
     from-act Halts n = absurd (omega arith)
     from-act (Stores at) n = absurd (omega arith)
+    from-act SpinsDown n = absurd (omega arith)
 
     from : {x : Answer Sent × Console} → Stepped k (write c (0x00 ∷ p)) x → result-in (x .0) ≡ result-number Success →
         x .1 ≡ responding k (held-by (k .machine) (Client c)) c

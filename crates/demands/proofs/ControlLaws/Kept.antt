@@ -1,7 +1,7 @@
 -- Every call keeps a console sound, so that each sequence of calls from opening leaves it sound.
 use Prim.Native.Nat.{ℕ, zero, suc, _≤_}
 use mathlib.Core.Path.{_≡_, refl, sym, ap, _∙_}
-use mathlib.Core.Bool.{Bool, true, false}
+use mathlib.Core.Bool.{Bool, true, false, cond, true≢false}
 use mathlib.Core.List.{List, [], _∷_}
 use native.Mathlib.Omega.{arith}
 use lib.Dec.{eqb}
@@ -10,23 +10,29 @@ use lib.Seq.{getD-set-same, getD-set-other, length-sets}
 use Rattle.record.specs.declared.feature.Feature.{Feature}
 use Rattle.record.specs.Feature.{feature-of}
 use Rattle.record.specs.Answer.{Answer, refused, given}
-use Rattle.record.specs.Octets.{placed}
+use Rattle.record.specs.Octets.{number, placed}
 use Rattle.record.proofs.Tests.{passed, failed, tested, eqb-eq, eqb-ne}
 use Rattle.service.specs.declared.control.Client.{Client as Link}
 use Rattle.service.specs.declared.control.Console.{Console}
 use Rattle.service.specs.declared.control.machine.Machine.{Machine}
 use Rattle.service.specs.declared.control.machine.Setup.{Setup}
+use Rattle.service.specs.declared.control.machine.Mode.{Mode}
+use Rattle.service.specs.declared.control.machine.Mode.the-variants.{Running}
 use Rattle.service.specs.declared.control.machine.Who.{Who}
 use Rattle.service.specs.declared.control.machine.Who.the-variants.{Nobody, Client}
 use Rattle.service.specs.declared.control.op_codes.OpCode.{OpCode}
 use Rattle.service.specs.declared.control.op_codes.Act.{Act}
-use Rattle.service.specs.declared.control.op_codes.Act.the-variants.{TakesControl, Resets, Starts, Halts, Stores}
+use Rattle.service.specs.declared.control.op_codes.Act.the-variants.{TakesControl, Resets, Starts, Halts, Stores, SpinsDown}
 use Rattle.service.specs.declared.control.op_codes.Lookup.the-variants.{Known}
 use Rattle.service.specs.Control.OpCodes.{op-code}
 use Rattle.service.specs.Control.Parameters.{size}
-use Rattle.service.specs.Control.Machine.{usable, without, freed, storing}
-use Rattle.service.specs.Control.Judging.{fit}
-use Rattle.service.specs.Control.Effects.{done, setting}
+use Rattle.service.specs.declared.control.spin_down.TargetSpeeds.{TargetSpeeds}
+use Rattle.service.specs.declared.control.spin_down.Run.{Run}
+use Rattle.service.specs.declared.control.spin_down.Run.the-variants.{Off, Quiet, Warned}
+use Rattle.service.specs.Control.SpinDown.{on, spun-to, run-at}
+use Rattle.service.specs.Control.Machine.{usable, is, someone, without, freed, spinning, going, storing}
+use Rattle.service.specs.Control.Judging.{controls, fit}
+use Rattle.service.specs.Control.Effects.{halted-to, done, setting}
 use Rattle.service.specs.Control.Console.{absent, client-at, is-connected, with-client, first}
 use Rattle.service.specs.Control.Replies.{Sent}
 use Rattle.service.specs.Control.Calls.{Opening, open-with, opened}
@@ -35,7 +41,7 @@ use Rattle.service.proofs.ControlLaws.Answers.{setup-of}
 use Rattle.demands.specs.Control.Point.{Call, service, Event, event, step, run}
 use Rattle.demands.specs.Control.Laws.{Present, Links, Right, at-zero, set-to, Sound}
 use Rattle.demands.proofs.ControlLaws.Places.{stored-same, stored-other, zero-at}
-use Rattle.demands.proofs.ControlLaws.Steps.{responding, Stepped, refusal, connected, gone, indicated, confirmed, denied, granted, steps}
+use Rattle.demands.proofs.ControlLaws.Steps.{responding, Stepped, refusal, connected, gone, indicated, confirmed, denied, granted, fed, steps}
 
 -- ---- clients
 
@@ -96,6 +102,29 @@ links-who : (k : Console) → Links k → (m : Machine) (w : Who) → Present (k
     Links (record { machine = m; clients = k .clients; awaited = w })
 links-who k l m w p q = record { four = l .four; indicating-connected = l .indicating-connected; awaited-connected = p; holder-connected = q }
 
+-- ---- a run
+
+no-run : on Off ≡ true → ⊥
+no-run e = true≢false (sym e)
+
+-- a client that holds control is someone
+held-someone : (w : Who) (c : ℕ) → is w c ≡ true → someone w ≡ true
+held-someone Nobody c e = absurd (true≢false (sym e))
+held-someone (Client d) c e = refl
+
+-- a run that is on after a client has gone is another's
+run-gone : (w : Who) (c : ℕ) (r : Run) → (on r ≡ true → someone w ≡ true) → on (cond (is w c) Off r) ≡ true → someone (without w c) ≡ true
+run-gone w c r h e = elim (tested (is w c)) [
+  | passed t ↦ absurd (no-run (rw t at e))
+  | failed t ↦ rw t (h (rw t at e))
+]
+
+-- a run that is on after a speed was on before it
+run-fed : (t : TargetSpeeds) (r : Run) (v : ℕ) → on (run-at t r v) ≡ true → on r ≡ true
+run-fed t Off v e = e
+run-fed t Quiet v e = refl
+run-fed t Warned v e = refl
+
 -- ---- settings
 
 module _ (k : Console) (s : Sound k) (c o : ℕ) (p : List ℕ) (x : OpCode) (e : op-code o ≡ Known x)
@@ -109,16 +138,31 @@ module _ (k : Console) (s : Sound k) (c o : ℕ) (p : List ℕ) (x : OpCode) (e 
         | failed t ↦ rw (stored-other (k .machine) o x a p e f n i (eqb-ne i o t)) (s .right i)
       ]
 
-  sound-done : is-connected k c ≡ true → (a : Act) → x .act ≡ a → Sound (responding k (done (k .machine) c a p) c)
+  -- a machine with the same holder and settings, and a run only if there is a holder
+  same-holder : is-connected k c ≡ true → (a : Mode) (r : Run) → (on r ≡ true → someone (k .machine .holder) ≡ true) →
+      Sound (responding k (spinning (going (k .machine) a) r) c)
   unfolding setting
-  sound-done j TakesControl f = record { links = links-who k (s .links) _ (Client c) j j; room = s .room; right = s .right }
-  sound-done j Resets f = record { links = links-who k (s .links) _ (Client c) j tt; room = refl; right = λ i. at-zero (zero-at i) }
-  sound-done j Starts f = record { links = links-who k (s .links) _ (Client c) j (s .links .holder-connected); room = s .room; right = s .right }
-  sound-done j Halts f = record { links = links-who k (s .links) _ (Client c) j (s .links .holder-connected); room = s .room; right = s .right }
-  sound-done j (Stores a) f = record {
+  same-holder j a r h = record {
+    links = links-who k (s .links) _ (Client c) j (s .links .holder-connected);
+    room = s .room;
+    right = s .right;
+    run-held = h;
+  }
+
+  sound-done : is-connected k c ≡ true → (a : Act) → x .act ≡ a → controls (k .machine .holder) c a ≡ true → Sound (responding k (done (k .machine) c a p) c)
+  unfolding setting
+  sound-done j TakesControl f w =
+      record { links = links-who k (s .links) _ (Client c) j j; room = s .room; right = s .right; run-held = λ e. refl }
+  sound-done j Resets f w =
+      record { links = links-who k (s .links) _ (Client c) j tt; room = refl; right = λ i. at-zero (zero-at i); run-held = λ e. absurd (no-run e) }
+  sound-done j Starts f w = same-holder j Running (k .machine .run) (s .run-held)
+  sound-done j Halts f w = same-holder j (halted-to (number 1 p)) (k .machine .run) (s .run-held)
+  sound-done j SpinsDown f w = same-holder j (k .machine .mode) (spun-to (number 1 p)) (λ e. held-someone (k .machine .holder) c w)
+  sound-done j (Stores a) f w = record {
     links = links-who k (s .links) _ (Client c) j (s .links .holder-connected);
     room = length-sets (k .machine .settings) a p ∙ s .room;
     right = stored-right a f;
+    run-held = s .run-held;
   }
 
 -- ---- calls
@@ -126,14 +170,25 @@ module _ (k : Console) (s : Sound k) (c o : ℕ) (p : List ℕ) (x : OpCode) (e 
 sound-stepped : (k : Console) {q : Call} {x : Answer Sent × Console} → Sound k → Stepped k q x → Sound (x .1)
 unfolding setting
 sound-stepped k s (refusal n l g) = s
-sound-stepped k s (connected c h e) = record { links = links-joined k (s .links) c h false; room = s .room; right = s .right }
-sound-stepped k s (gone c h e) = record { links = links-gone k (s .links) c h; room = s .room; right = s .right }
-sound-stepped k s (indicated c on h e) = record { links = links-joined k (s .links) c h on; room = s .room; right = s .right }
+sound-stepped k s (connected c h e) = record { links = links-joined k (s .links) c h false; room = s .room; right = s .right; run-held = s .run-held }
+sound-stepped k s (gone c h e) = record {
+  links = links-gone k (s .links) c h;
+  room = s .room;
+  right = s .right;
+  run-held = run-gone (k .machine .holder) c (k .machine .run) (s .run-held);
+}
+sound-stepped k s (indicated c on h e) = record { links = links-joined k (s .links) c h on; room = s .room; right = s .right; run-held = s .run-held }
 sound-stepped k s (confirmed c h e f) =
-    record { links = links-who k (s .links) (k .machine) Nobody tt (s .links .holder-connected); room = s .room; right = s .right }
+    record { links = links-who k (s .links) (k .machine) Nobody tt (s .links .holder-connected); room = s .room; right = s .right; run-held = s .run-held }
 sound-stepped k s (denied c o p h r n) =
-    record { links = links-who k (s .links) (k .machine) (Client c) (h .joined) (s .links .holder-connected); room = s .room; right = s .right }
-sound-stepped k s (granted c o p h x e g) = sound-done k s c o p x e (g .suits) (h .joined) (x .act) refl
+    record { links = links-who k (s .links) (k .machine) (Client c) (h .joined) (s .links .holder-connected); room = s .room; right = s .right; run-held = s .run-held }
+sound-stepped k s (granted c o p h x e g) = sound-done k s c o p x e (g .suits) (h .joined) (x .act) refl (g .controlled)
+sound-stepped k s (fed v) = record {
+  links = links-who k (s .links) _ (k .awaited) (s .links .awaited-connected) (s .links .holder-connected);
+  room = s .room;
+  right = s .right;
+  run-held = λ e. s .run-held (run-fed (k .machine .setup .speeds) (k .machine .run) v e);
+}
 
 pub sound-step : (k : Console) (q : Call) → Sound k → Sound (step k q .1)
 sound-step k q s = sound-stepped k s (steps k q)
@@ -156,6 +211,7 @@ sound-first s = record {
   };
   room = refl;
   right = λ o. at-zero (zero-at o);
+  run-held = λ e. absurd (no-run e);
 }
 
 -- the console that opening gives
@@ -163,7 +219,7 @@ pub opened-first : (o : Opening) (k : Console) → opened o ≡ given k → (f :
 unfolding opened
 opened-first o k e = from (feature-of (o .feature)) e
   where
-    from : (a : Answer Feature) → open-with a (o .ranges) ≡ given k → (f : Feature) × (k ≡ first (setup-of f o))
+    from : (a : Answer Feature) → open-with a (o .ranges) (o .speeds) ≡ given k → (f : Feature) × (k ≡ first (setup-of f o))
     from (refused n) e = absurd (let z : _≡_ {A = ℕ} 0 1 = cc in omega arith)
     from (given f) e =
         elim (tested (usable (setup-of f o))) [

@@ -21,19 +21,20 @@ use Rattle.service.specs.Control.Effects.{setting}
 use Rattle.service.specs.Control.Console.{first, closed, with-client, awaiting}
 use Rattle.service.specs.Control.Replies.{Sent, sent, refusal-of}
 use Rattle.service.specs.Control.Calls.{opened, connects, disconnects, indicates, confirms, writes}
-use Rattle.demands.specs.Control.Point.{Call, connect, disconnect, confirm, indicate, write, Point, step, run}
+use Rattle.demands.specs.Control.Point.{Call, connect, disconnect, confirm, indicate, write, flywheel, Point, step, run}
 use Rattle.demands.specs.Control.Laws.{result-in, holder-by, setting-by}
 use Rattle.demands.specs.Control.History.{mode-by, awaited-by, connected-by, indicating-by, ModeByHistory, AwaitedByHistory, ConnectedByHistory, IndicatingByHistory, HolderByHistory, SettingByHistory}
+use Rattle.demands.specs.Control.Runs.{led-by}
 use Rattle.demands.specs.Control.Answered.{refusal-by, AnswersByHistory}
-use Rattle.demands.specs.Control.Cases.{ready, asks, holds}
+use Rattle.demands.specs.Control.Cases.{speeds, ready, asks, holds}
 use Rattle.demands.specs.Control.Rules.{stopped}
 use Rattle.demands.specs.Control.Worked.Ends.{able}
 use Rattle.demands.specs.Control.Worked.Openings.{fair}
-use Rattle.demands.proofs.ControlLaws.Meets.{plain, opens-so}
+use Rattle.demands.proofs.ControlLaws.Meets.{plain, plain-console, opens-so}
 
 -- a machine with every target setting, opened
-abbrev able-console : Console
-able-console = first (record { feature = record { features = 0; targets = 0x1FFFF }; ranges = fair })
+abbrev pub able-console : Console
+able-console = first (record { feature = record { features = 0; targets = 0x1FFFF }; ranges = fair; speeds = speeds })
 
 -- the service, except that the console after a call is altered, by the call and the console before it
 abbrev pub altered : (Call → Console → Console → Console) → Point Console
@@ -55,13 +56,14 @@ pause-stops = altered (λ q before after. in-mode after (never-paused (after .ma
 
 pub pause-stops-refuted : ModeByHistory pause-stops → ⊥
 unfolding run connects indicates confirms writes op-code fit judged number mode-by
-pause-stops-refuted h = true≢false (ap stopped (h plain closed opens-so (holds 0 ++ asks 0 (0x07 ∷ []) ++ asks 0 (0x08 ∷ 2 ∷ []))))
+pause-stops-refuted h = true≢false (ap stopped (h plain plain-console opens-so (holds 0 ++ asks 0 (0x07 ∷ []) ++ asks 0 (0x08 ∷ 2 ∷ []))))
 
 -- a machine that is reset goes on running
 abbrev goes-on : Call → Console → Console → Console
 goes-on (connect c) before after = after
 goes-on (disconnect c) before after = after
 goes-on (confirm c) before after = after
+goes-on (flywheel v) before after = after
 goes-on (indicate c on) before after = after
 goes-on (write c s) before after = cond (eqb (getD s 0 0) 0x01) (in-mode after (before .machine .mode)) after
 
@@ -70,7 +72,7 @@ reset-runs = altered goes-on
 
 pub reset-runs-refuted : ModeByHistory reset-runs → ⊥
 unfolding run connects indicates confirms writes op-code fit judged number mode-by
-reset-runs-refuted h = true≢false (sym (ap stopped (h plain closed opens-so (holds 0 ++ asks 0 (0x07 ∷ []) ++ asks 0 (0x01 ∷ [])))))
+reset-runs-refuted h = true≢false (sym (ap stopped (h plain plain-console opens-so (holds 0 ++ asks 0 (0x07 ∷ []) ++ asks 0 (0x01 ∷ [])))))
 
 -- ---- whose response awaits confirmation
 
@@ -79,6 +81,7 @@ abbrev frees : Call → Console → Console → Console
 frees (connect c) before after = after
 frees (disconnect c) before after = after
 frees (confirm c) before after = after
+frees (flywheel v) before after = after
 frees (indicate c on) before after = cond on after (awaiting after (without (after .awaited) c))
 frees (write c s) before after = after
 
@@ -87,13 +90,14 @@ off-frees = altered frees
 
 pub off-frees-refuted : AwaitedByHistory off-frees → ⊥
 unfolding run connects indicates confirms writes op-code fit judged number awaited-by
-off-frees-refuted h = true≢false (sym (ap someone (h plain closed opens-so (ready 0 ++ write 0 (0x00 ∷ []) ∷ indicate 0 false ∷ []))))
+off-frees-refuted h = true≢false (sym (ap someone (h plain plain-console opens-so (ready 0 ++ write 0 (0x00 ∷ []) ∷ indicate 0 false ∷ []))))
 
 -- a disconnect leaves the response due
 abbrev leaves : Call → Console → Console → Console
 leaves (connect c) before after = after
 leaves (disconnect c) before after = awaiting after (before .awaited)
 leaves (confirm c) before after = after
+leaves (flywheel v) before after = after
 leaves (indicate c on) before after = after
 leaves (write c s) before after = after
 
@@ -102,7 +106,7 @@ gone-due = altered leaves
 
 pub gone-due-refuted : AwaitedByHistory gone-due → ⊥
 unfolding run connects disconnects indicates confirms writes op-code fit judged number awaited-by
-gone-due-refuted h = true≢false (ap someone (h plain closed opens-so (ready 0 ++ write 0 (0x00 ∷ []) ∷ disconnect 0 ∷ [])))
+gone-due-refuted h = true≢false (ap someone (h plain plain-console opens-so (ready 0 ++ write 0 (0x00 ∷ []) ∷ disconnect 0 ∷ [])))
 
 -- ---- who is connected, and whose indications are on
 
@@ -111,6 +115,7 @@ abbrev stays : Call → Console → Console → Console
 stays (connect c) before after = after
 stays (disconnect c) before after = record { machine = after .machine; clients = before .clients; awaited = after .awaited }
 stays (confirm c) before after = after
+stays (flywheel v) before after = after
 stays (indicate c on) before after = after
 stays (write c s) before after = after
 
@@ -119,17 +124,18 @@ gone-connected = altered stays
 
 pub gone-connected-refuted : ConnectedByHistory gone-connected → ⊥
 unfolding run connects disconnects connected-by
-gone-connected-refuted h = true≢false (h 0 plain closed opens-so (connect 0 ∷ disconnect 0 ∷ []))
+gone-connected-refuted h = true≢false (h 0 plain plain-console opens-so (connect 0 ∷ disconnect 0 ∷ []))
 
 pub gone-indicating-refuted : IndicatingByHistory gone-connected → ⊥
 unfolding run connects disconnects indicates indicating-by
-gone-indicating-refuted h = true≢false (h 0 plain closed opens-so (ready 0 ++ disconnect 0 ∷ []))
+gone-indicating-refuted h = true≢false (h 0 plain plain-console opens-so (ready 0 ++ disconnect 0 ∷ []))
 
 -- indications are on at connect
 abbrev shows : Call → Console → Console → Console
 shows (connect c) before after = with-client after c (record { connected = true; indicating = true })
 shows (disconnect c) before after = after
 shows (confirm c) before after = after
+shows (flywheel v) before after = after
 shows (indicate c on) before after = after
 shows (write c s) before after = after
 
@@ -138,7 +144,7 @@ on-at-connect = altered shows
 
 pub on-at-connect-refuted : IndicatingByHistory on-at-connect → ⊥
 unfolding run connects indicating-by
-on-at-connect-refuted h = true≢false (h 0 plain closed opens-so (connect 0 ∷ []))
+on-at-connect-refuted h = true≢false (h 0 plain plain-console opens-so (connect 0 ∷ []))
 
 -- ---- who holds control, and the settings
 
@@ -150,6 +156,7 @@ abbrev keeps-control : Call → Console → Console → Console
 keeps-control (connect c) before after = after
 keeps-control (disconnect c) before after = in-control before after
 keeps-control (confirm c) before after = after
+keeps-control (flywheel v) before after = after
 keeps-control (indicate c on) before after = after
 keeps-control (write c s) before after = after
 
@@ -158,7 +165,7 @@ gone-holding = altered keeps-control
 
 pub gone-holding-refuted : HolderByHistory gone-holding → ⊥
 unfolding run connects disconnects indicates confirms writes op-code fit judged number holder-by
-gone-holding-refuted h = true≢false (ap someone (h plain closed opens-so (holds 0 ++ disconnect 0 ∷ [])))
+gone-holding-refuted h = true≢false (ap someone (h plain plain-console opens-so (holds 0 ++ disconnect 0 ∷ [])))
 
 -- the settings as they were before a write, for the op codes that a test picks
 abbrev with-settings : Console → Console → Console
@@ -168,6 +175,7 @@ abbrev unsaved : (ℕ → Bool) → Call → Console → Console → Console
 unsaved f (connect c) before after = after
 unsaved f (disconnect c) before after = after
 unsaved f (confirm c) before after = after
+unsaved f (flywheel v) before after = after
 unsaved f (indicate c on) before after = after
 unsaved f (write c s) before after = cond (f (getD s 0 0)) (with-settings before after) after
 
@@ -178,7 +186,7 @@ stores-nothing = altered (unsaved (λ o. not (eqb o 0x01)))
 abbrev pub reset-keeps : Point Console
 reset-keeps = altered (unsaved (λ o. eqb o 0x01))
 
-able-opens : opened (able fair) ≡ given able-console
+pub able-opens : opened (able fair) ≡ given able-console
 unfolding opened number
 able-opens = refl
 
@@ -216,6 +224,7 @@ abbrev of-write : (ℕ → List ℕ → Console → Answer Sent → Answer Sent)
 of-write f (connect c) before a = a
 of-write f (disconnect c) before a = a
 of-write f (confirm c) before a = a
+of-write f (flywheel v) before a = a
 of-write f (indicate c on) before a = a
 of-write f (write c s) before a = f c s before a
 
@@ -233,11 +242,11 @@ unfolding number
 no-targets = refl
 
 pub pauses-again-refuted : AnswersByHistory pauses-again → ⊥
-unfolding run connects indicates confirms writes op-code fit judged number has holder-by mode-by awaited-by connected-by indicating-by
+unfolding run connects indicates confirms writes op-code fit judged number has holder-by mode-by awaited-by connected-by indicating-by led-by
 pauses-again-refuted h =
     let e : _≡_ {A = ℕ} 0x01 0x04 =
     ap result-in
-    (h .answers plain (closed .machine .setup .feature) no-targets closed opens-so (holds 0 ++ asks 0 (0x07 ∷ []) ++ asks 0 (0x08 ∷ 2 ∷ []))
+    (h .answers plain (closed .machine .setup .feature) no-targets plain-console opens-so (holds 0 ++ asks 0 (0x07 ∷ []) ++ asks 0 (0x08 ∷ 2 ∷ []))
     (write 0 (0x08 ∷ 2 ∷ [])) (lit≤ tt)) in
     omega arith
 
@@ -246,10 +255,10 @@ abbrev pub busy-alone : Point Console
 busy-alone = retold (of-write (λ c s before a. cond (is (before .awaited) c) a (writes (awaiting before Nobody) c s .0)))
 
 pub busy-alone-refuted : AnswersByHistory busy-alone → ⊥
-unfolding run connects indicates confirms writes op-code fit judged number has holder-by mode-by awaited-by connected-by indicating-by
+unfolding run connects indicates confirms writes op-code fit judged number has holder-by mode-by awaited-by connected-by indicating-by led-by
 busy-alone-refuted h =
     let e : _≡_ {A = ℕ} 0 20 =
     ap refusal-of
-    (h .answers plain (closed .machine .setup .feature) no-targets closed opens-so (ready 0 ++ ready 1 ++ write 0 (0x00 ∷ []) ∷ [])
+    (h .answers plain (closed .machine .setup .feature) no-targets plain-console opens-so (ready 0 ++ ready 1 ++ write 0 (0x00 ∷ []) ∷ [])
     (write 1 (0x00 ∷ [])) (lit≤ tt)) in
     omega arith

@@ -12,11 +12,12 @@ use Rattle.service.specs.declared.control.judging.WriteResult.the-variants.{Suc
 use Rattle.service.specs.Control.OpCodes.{op-code}
 use Rattle.service.specs.Control.Judging.{result-number, fit, judged}
 use Rattle.service.specs.Control.Effects.{response-octets, success-status}
-use Rattle.service.specs.Control.Console.{closed}
+use Rattle.service.specs.Control.Console.{first, closed}
 use Rattle.service.specs.Control.Replies.{Sent, sent}
 use Rattle.service.specs.Control.Calls.{Opening, opened, connects, indicates, writes}
-use Rattle.demands.specs.Control.Point.{Call, connect, disconnect, confirm, indicate, write, Point, service, Event, event, latest, step, run, Answers}
+use Rattle.demands.specs.Control.Point.{Call, connect, disconnect, confirm, indicate, write, flywheel, Point, service, Event, event, latest, step, run, Answers}
 use Rattle.demands.specs.Control.Laws.{result-in}
+use Rattle.demands.specs.Control.Cases.{speeds}
 
 -- ---- how to show it for code: its states are read as consoles, and each call changes the console that its state is read as
 
@@ -71,11 +72,14 @@ module _ {S R : Type 0} (p : Point S) (r : Point R) (a : Answers p) (b : Answers
 
 -- ---- wrong ones
 
--- a machine with no target setting, and every range 0 to 0
+-- a machine with no target setting, every range 0 to 0, and target speeds 1,000 and 2,000
 abbrev pub plain : Opening
-plain = record { feature = 0 ∷ 0 ∷ 0 ∷ 0 ∷ 0 ∷ 0 ∷ 0 ∷ 0 ∷ []; ranges = closed .machine .setup .ranges }
+plain = record { feature = 0 ∷ 0 ∷ 0 ∷ 0 ∷ 0 ∷ 0 ∷ 0 ∷ 0 ∷ []; ranges = closed .machine .setup .ranges; speeds = speeds }
 
-pub opens-so : opened plain ≡ given closed
+abbrev pub plain-console : Console
+plain-console = first (record { feature = closed .machine .setup .feature; ranges = closed .machine .setup .ranges; speeds = speeds })
+
+pub opens-so : opened plain ≡ given plain-console
 unfolding opened number
 opens-so = refl
 
@@ -83,7 +87,7 @@ opens-so = refl
 abbrev first-calls : List Call
 first-calls = connect 0 ∷ indicate 0 true ∷ write 0 (0x00 ∷ []) ∷ []
 
-first-granted : latest (run service closed [] first-calls .0) ≡ sent (response-octets 0x00 Success) (success-status (op-code 0x00) [])
+first-granted : latest (run service plain-console [] first-calls .0) ≡ sent (response-octets 0x00 Success) (success-status (op-code 0x00) [])
 unfolding connects indicates writes judged op-code fit run number
 first-granted = refl
 
@@ -99,8 +103,8 @@ module _ {S : Type 0} (p : Point S) where
   -- a control point that never answers 01
   pub not-never-01 : ((x : S) (c o : ℕ) (s : List ℕ) → result-in (p .calling x (write c (o ∷ s)) .0) ≡ result-number Success → ⊥) → Answers p → ⊥
   not-never-01 h a =
-      let g : (x : S) × (p .opening plain ≡ given x) × ((qs : List Call) → run p x [] qs .0 ≡ run service closed [] qs .0) =
-      a .answers-alike plain closed opens-so in
+      let g : (x : S) × (p .opening plain ≡ given x) × ((qs : List Call) → run p x [] qs .0 ≡ run service plain-console [] qs .0) =
+      a .answers-alike plain plain-console opens-so in
       h (ready (g .0)) 0 0x00 [] (ap result-in (sym (latest-run (g .0)) ∙ ap latest (g .2 first-calls) ∙ first-granted))
 
   -- one that answers 02 to everything, whatever else it does
@@ -113,6 +117,7 @@ says-02 (connect c) = sent [] []
 says-02 (disconnect c) = sent [] []
 says-02 (confirm c) = sent [] []
 says-02 (indicate c on) = sent [] []
+says-02 (flywheel v) = sent [] []
 says-02 (write c s) = sent (response-octets (getD s 0 0) NotSupported) []
 
 abbrev pub only-02 : Point (Unit {0})

@@ -6,7 +6,7 @@ use lib.Dec.{eqb, leb}
 use Rattle.record.proofs.Tests.{eqb-eq, leb-le}
 use Rattle.service.specs.declared.control.op_codes.OpCode.{OpCode}
 use Rattle.service.specs.declared.control.op_codes.Act.{Act}
-use Rattle.service.specs.declared.control.op_codes.Act.the-variants.{TakesControl, Resets, Starts, Halts, Stores}
+use Rattle.service.specs.declared.control.op_codes.Act.the-variants.{TakesControl, Resets, Starts, Halts, Stores, SpinsDown}
 use Rattle.service.specs.declared.control.op_codes.Lookup.the-variants.{Known}
 use Rattle.service.specs.declared.control.judging.WriteResult.{WriteResult}
 use Rattle.service.specs.declared.control.judging.WriteResult.the-variants.{Success, NotSupported, InvalidParameter, OperationFailed, ControlNotPermitted}
@@ -21,6 +21,7 @@ Number o Resets = o ≡ 0x01
 Number o Starts = 2 ≤ o
 Number o Halts = 2 ≤ o
 Number o (Stores at) = 2 ≤ o
+Number o SpinsDown = 2 ≤ o
 
 abbrev numbered : ℕ → Act → Bool
 numbered o TakesControl = eqb o 0x00
@@ -28,6 +29,7 @@ numbered o Resets = eqb o 0x01
 numbered o Starts = leb 2 o
 numbered o Halts = leb 2 o
 numbered o (Stores at) = leb 2 o
+numbered o SpinsDown = leb 2 o
 
 pub number-so : (o : ℕ) (x : OpCode) → op-code o ≡ Known x → Number o (x .act)
 number-so o x e = from (x .act) (table-rule (λ o x. numbered o (x .act)) refl o x e)
@@ -38,6 +40,7 @@ number-so o x e = from (x .act) (table-rule (λ o x. numbered o (x .act)) refl o
     from Starts h = leb-le 2 o h
     from Halts h = leb-le 2 o h
     from (Stores at) h = leb-le 2 o h
+    from SpinsDown h = leb-le 2 o h
 
 -- a result that is no success is not 01
 pub not-01 : (r : WriteResult) → succeeds r ≡ false → eqb (result-number r) (result-number Success) ≡ false

@@ -11,6 +11,7 @@ use Rattle.record.specs.Answer.{Answer, refused, given}
 use Rattle.record.specs.Feature.{feature-of}
 use Rattle.service.specs.declared.control.Console.{Console}
 use Rattle.service.specs.declared.control.Reply.{Reply}
+use Rattle.service.specs.declared.control.spin_down.TargetSpeeds.{TargetSpeeds}
 use Rattle.service.specs.declared.control.ranges.Ranges.{Ranges}
 use Rattle.service.specs.declared.control.machine.Who.the-variants.{Client}
 use Rattle.service.specs.declared.control.judging.WriteResult.the-variants.{Success}
@@ -26,14 +27,17 @@ use Rattle.service.proofs.control.Console.disconnect.Reads as disconnect-code
 use Rattle.service.proofs.control.Console.indicate.Reads as indicate-code
 use Rattle.service.proofs.control.Console.confirm.Reads as confirm-code
 use Rattle.service.proofs.control.Console.write.Reads as write-code
-use Rattle.demands.specs.Control.Point.{Call, connect, disconnect, confirm, indicate, write, Point, service, Event, event, step, run, Answers}
+use Rattle.service.proofs.control.Console.flywheel.Reads as flywheel-code
+use Rattle.demands.specs.Control.Point.{Call, connect, disconnect, confirm, indicate, write, flywheel, Point, service, Event, event, step, run, Answers}
 use Rattle.demands.specs.Control.Laws.{Sound, stores, by, result-in, holder-by, setting-by, Heard, Unchanged, ByAnother, Spared}
 use Rattle.demands.specs.Control.History.{mode-by, awaited-by, connected-by, indicating-by}
+use Rattle.demands.specs.Control.Runs.{led-by, run-of, words, spoken}
 use Rattle.demands.specs.Control.Answered.{answer-by, OctetIn}
 use Rattle.demands.proofs.ControlLaws.Kept.{sound-step, sound-after}
 use Rattle.demands.proofs.ControlLaws.Changes.{refusals, by-another}
 use Rattle.demands.proofs.ControlLaws.History.{holder-by-history}
 use Rattle.demands.proofs.ControlLaws.Remembered.{mode-by-history, awaited-by-history, connected-by-history, indicating-by-history}
+use Rattle.demands.proofs.ControlLaws.Runs.{run-by-history, says-by-run}
 use Rattle.demands.proofs.ControlLaws.Answered.{answers-by-history}
 use Rattle.demands.proofs.ControlLaws.Settings.{setting-by-history, granted-to-holder}
 use Rattle.demands.proofs.ControlLaws.Alive.{alive-after}
@@ -49,8 +53,8 @@ console-of x = from (x .0) (x .1)
 
 -- what the code may answer to an opening, by its contract
 pub data DidOpen : Opening → Answer Console → Type 0 where
-  did-open : (κ : Lft) (s : RefT (List ℕ)) (r : Ranges) (y : Reply) (e : RefT (List ℕ) × (Ranges × Unit {0})) →
-      open-code.Post (κ, tt) (s, (r, tt)) y e → DidOpen (opening (now s) r) (console-of (meant y))
+  did-open : (κ : Lft) (s : RefT (List ℕ)) (r : Ranges) (t : TargetSpeeds) (y : Reply) (e : RefT (List ℕ) × (Ranges × (TargetSpeeds × Unit {0}))) →
+      open-code.Post (κ, tt) (s, (r, (t, tt))) y e → DidOpen (opening (now s) r t) (console-of (meant y))
 
 -- what the code may answer to a call, by its contract, and the console that it leaves
 pub data Did (k : Console) : Call → Answer Sent × Console → Type 0 where
@@ -61,13 +65,14 @@ pub data Did (k : Console) : Call → Answer Sent × Console → Type 0 where
       indicate-code.Post tt (k, (c, (on, tt))) y e → Did k (indicate c on) (meant y)
   did-write : (κ : Lft) (c : ℕ) (s : RefT (List ℕ)) (y : Reply) (e : Console × (ℕ × (RefT (List ℕ) × Unit {0}))) →
       write-code.Post (κ, tt) (k, (c, (s, tt))) y e → Did k (write c (now s)) (meant y)
+  did-flywheel : (v : ℕ) (y : Reply) (e : Console × (ℕ × Unit {0})) → flywheel-code.Post tt (k, (v, tt)) y e → Did k (flywheel v) (meant y)
 
 pub console-again : (a : Answer Console) → console-of (open-reply a) ≡ a
 console-again (refused n) = refl
 console-again (given k) = refl
 
 pub opens-alike : {o : Opening} {a : Answer Console} → DidOpen o a → a ≡ opened o
-opens-alike (did-open κ s r y e p) = ap console-of (p .means) ∙ console-again (opened (opening (now s) r))
+opens-alike (did-open κ s r t y e p) = ap console-of (p .means) ∙ console-again (opened (opening (now s) r t))
 
 pub steps-alike : {k : Console} {q : Call} {x : Answer Sent × Console} → Did k q x → x ≡ step k q
 steps-alike (did-connect c y e p) = p .means
@@ -75,6 +80,7 @@ steps-alike (did-disconnect c y e p) = p .means
 steps-alike (did-confirm c y e p) = p .means
 steps-alike (did-indicate c on y e p) = p .means
 steps-alike (did-write κ c s y e p) = p .means
+steps-alike (did-flywheel v y e p) = p .means
 
 -- ---- one call of the code: what it may change
 
@@ -120,9 +126,10 @@ runs-alike over = refl
 runs-alike {past = past} (then {q = q} {qs = qs} d r) =
     runs-alike r ∙ ap (λ (x : Answer Sent × Console). run service (x .1) (event q (x .0) ∷ past) qs) (steps-alike d)
 
--- after any sequence of calls from an opening on, what happened and the console: it is sound; its holder, mode, awaited response, clients and
--- each setting are what the history says; and each client can be brought to write again
-pub record Lawful (z : List Event × Console) : Type 0 where
+-- after any sequence of calls from an opening with these target speeds on, what happened and the console: it is sound; its holder, mode, awaited
+-- response, clients, each setting and its run are what the history says; who started the run holds control; what was said since is what its speeds
+-- say; and each client can be brought to write again
+pub record Lawful (t : TargetSpeeds) (z : List Event × Console) : Type 0 where
   pub sound : Sound (z .1)
   pub holder-so : z .1 .machine .holder ≡ holder-by (z .0) []
   pub mode-so : z .1 .machine .mode ≡ mode-by (z .0)
@@ -130,9 +137,12 @@ pub record Lawful (z : List Event × Console) : Type 0 where
   pub connected-so : (c : ℕ) → is-connected (z .1) c ≡ connected-by c (z .0)
   pub indicating-so : (c : ℕ) → is-indicating (z .1) c ≡ indicating-by c (z .0)
   pub setting-so : (i : ℕ) → stores (op-code i) ≡ true → setting (z .1 .machine) i ≡ setting-by i (z .0)
+  pub run-so : z .1 .machine .run ≡ run-of t (led-by t (z .0))
+  pub starter-so : led-by t (z .0) .on ≡ true → z .1 .machine .holder ≡ led-by t (z .0) .starter
+  pub spoken-so : spoken (z .0) ≡ words t (led-by t (z .0) .speeds)
   pub alive : (c : ℕ) → c ≤ 3 → (more : List Call) × Heard (run service (z .1) [] more .1) c
 
-pub ours-lawful : {o : Opening} {k : Console} {qs : List Call} {z : List Event × Console} → DidOpen o (given k) → Ran k [] qs z → Lawful z
+pub ours-lawful : {o : Opening} {k : Console} {qs : List Call} {z : List Event × Console} → DidOpen o (given k) → Ran k [] qs z → Lawful (o .speeds) z
 ours-lawful {o} {k} {qs} d ran =
     let e : opened o ≡ given k = sym (opens-alike d) in
     rw (runs-alike ran) (record {
@@ -143,14 +153,17 @@ ours-lawful {o} {k} {qs} d ran =
       connected-so = λ c. connected-by-history c o k e qs;
       indicating-so = λ c. indicating-by-history c o k e qs;
       setting-so = λ i t. setting-by-history o k e qs i t;
+      run-so = run-by-history .run-so o k e qs;
+      starter-so = run-by-history .starter-holds o k e qs;
+      spoken-so = says-by-run o k e qs;
       alive = λ c h. alive-after o k e qs c h;
     })
 
 -- and whatever the code answers next is what the history and the rules of the op codes say
 pub ours-answered : {o : Opening} {k : Console} {qs : List Call} {z : List Event × Console} {q : Call} {x : Answer Sent × Console} →
     DidOpen o (given k) → Ran k [] qs z → Did (z .1) q x → (f : Feature) → feature-of (o .feature) ≡ given f → OctetIn q →
-    x .0 ≡ answer-by (record { feature = f; ranges = o .ranges }) (z .0) q
+    x .0 ≡ answer-by (record { feature = f; ranges = o .ranges; speeds = o .speeds }) (z .0) q
 ours-answered {o} {k} {qs} {z} {q} d ran did f e w =
     ap (λ (x : Answer Sent × Console). x .0) (steps-alike did) ∙ ap (λ (z : List Event × Console). step (z .1) q .0) (runs-alike ran) ∙
     answers-by-history .answers o f e k (sym (opens-alike d)) qs q w ∙
-    ap (λ (z : List Event × Console). answer-by (record { feature = f; ranges = o .ranges }) (z .0) q) (sym (runs-alike ran))
+    ap (λ (z : List Event × Console). answer-by (record { feature = f; ranges = o .ranges; speeds = o .speeds }) (z .0) q) (sym (runs-alike ran))

@@ -13,7 +13,7 @@ use Rattle.record.proofs.Tests.{leb-le, eqb-false, all}
 use Rattle.service.specs.declared.control.machine.Machine.{Machine}
 use Rattle.service.specs.declared.control.op_codes.OpCode.{OpCode}
 use Rattle.service.specs.declared.control.op_codes.Act.{Act}
-use Rattle.service.specs.declared.control.op_codes.Act.the-variants.{TakesControl, Resets, Starts, Halts, Stores}
+use Rattle.service.specs.declared.control.op_codes.Act.the-variants.{TakesControl, Resets, Starts, Halts, Stores, SpinsDown}
 use Rattle.service.specs.declared.control.op_codes.Lookup.{Lookup}
 use Rattle.service.specs.declared.control.op_codes.Lookup.the-variants.{Known, Unknown}
 use Rattle.service.specs.Control.OpCodes.{table, op-code}
@@ -50,6 +50,7 @@ against a n TakesControl k = true
 against a n Resets k = true
 against a n Starts k = true
 against a n Halts k = true
+against a n SpinsDown k = true
 against a n (Stores b) k = leb (a + n) b || leb (b + k) a
 
 abbrev apart : Act → ℕ → Act → ℕ → Bool
@@ -57,6 +58,7 @@ apart TakesControl n q k = true
 apart Resets n q k = true
 apart Starts n q k = true
 apart Halts n q k = true
+apart SpinsDown n q k = true
 apart (Stores a) n q k = against a n q k
 
 abbrev clear : ℕ → OpCode → ℕ → OpCode → Bool
@@ -102,6 +104,7 @@ module _ (m : Machine) (o : ℕ) (x : OpCode) (a : ℕ) (p : List ℕ) (e : op-c
       from-act y g Resets j = refl
       from-act y g Starts j = refl
       from-act y g Halts j = refl
+      from-act y g SpinsDown j = refl
       from-act y g (Stores b) j = elim (apart-two i y b g j d) [
         | inl h ↦ ap (take (size (y .parameter))) (after p (m .settings) a b (omega arith))
         | inr h ↦ before p (m .settings) a b (size (y .parameter)) h
@@ -130,6 +133,7 @@ zero-at o = from (op-code o) refl
     from-act n Resets h = refl
     from-act n Starts h = refl
     from-act n Halts h = refl
+    from-act n SpinsDown h = refl
     from-act n (Stores b) h = zeros-part n b 49 h
 
     from : (l : Lookup) → op-code o ≡ l → setting-of (replicate 49 0) l ≡ zero-setting l

@@ -22,9 +22,9 @@ use Rattle.service.specs.Control.Console.{closed}
 use Rattle.service.specs.Control.Replies.{Sent, refuses, responds, Says}
 use Rattle.service.specs.Control.Calls.{Opening, opened, opens}
 use Rattle.service.proofs.ControlLaws.Answers.{setup-of, opens-22, opens-16, opens-with, says-sent, sent-so}
-use Rattle.demands.specs.Control.Point.{Call, connect, disconnect, confirm, indicate, write, service, step}
-use Rattle.demands.proofs.ControlLaws.Steps.{Stepped, refusal, connected, gone, indicated, confirmed, denied, granted, steps}
-use Rattle.demands.proofs.ControlLaws.Ours.{console-of, console-again, DidOpen, did-open, Did, did-connect, did-disconnect, did-confirm, did-indicate, did-write, ByContract}
+use Rattle.demands.specs.Control.Point.{Call, connect, disconnect, confirm, indicate, write, flywheel, service, step}
+use Rattle.demands.proofs.ControlLaws.Steps.{Stepped, refusal, connected, gone, indicated, confirmed, denied, granted, fed, steps}
+use Rattle.demands.proofs.ControlLaws.Ours.{console-of, console-again, DidOpen, did-open, Did, did-connect, did-disconnect, did-confirm, did-indicate, did-write, did-flywheel, ByContract}
 
 -- ---- each number from 10 to 22 is a refusal's
 
@@ -71,6 +71,7 @@ sayable k (indicated c on h e) = says [] [] _
 sayable k (confirmed c h e f) = says [] [] _
 sayable k (denied c o p h r e) = says _ [] _
 sayable k (granted c o p h x e g) = says _ _ _
+sayable k (fed v) = says [] _ _
 
 -- ---- calls
 
@@ -86,6 +87,7 @@ can-step k q = from q (sayable k (steps k q))
     from (write c s) y =
         let r : RefT (List ℕ) = record { ptr = (0, 0); name = 0; now = s } in
         subst (λ (x : Answer Sent × Console). Did k (write c s) x) (y .1 .means) (did-write [] c r (y .0) (k, (c, (r, tt))) (y .1))
+    from (flywheel v) y = subst (λ (x : Answer Sent × Console). Did k (flywheel v) x) (y .1 .means) (did-flywheel v (y .0) (k, (v, tt)) (y .1))
 
 -- ---- opening
 
@@ -105,7 +107,7 @@ can-open o =
     let y : Sayable (opens o) = openable o in
     let r : RefT (List ℕ) = record { ptr = (0, 0); name = 0; now = o .feature } in
     subst (λ (a : Answer Console). DidOpen o a) (ap console-of (y .1 .means) ∙ console-again (opened o))
-    (did-open [] r (o .ranges) (y .0) (r, (o .ranges, tt)) (y .1))
+    (did-open [] r (o .ranges) (o .speeds) (y .0) (r, (o .ranges, (o .speeds, tt))) (y .1))
 
 pub service-by-contract : ByContract service
 service-by-contract = record { opens = can-open; steps = can-step }

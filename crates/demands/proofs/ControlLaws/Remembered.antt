@@ -2,7 +2,7 @@
 use Prim.Native.Nat.{ℕ, _≤_}
 use mathlib.Core.Path.{_≡_, refl, sym, ap, _∙_}
 use mathlib.Core.Bool.{Bool, true, false, cond, not, _&&_, true≢false}
-use mathlib.Core.List.{List, [], _∷_}
+use mathlib.Core.List.{List, [], _∷_, _++_}
 use native.Mathlib.Omega.{arith}
 use lib.Dec.{eqb, leb}
 use lib.ListN.{getD, set}
@@ -18,12 +18,13 @@ use Rattle.service.specs.declared.control.machine.Mode.{Mode}
 use Rattle.service.specs.declared.control.machine.Mode.the-variants.{Stopped, Running}
 use Rattle.service.specs.declared.control.machine.Who.{Who}
 use Rattle.service.specs.declared.control.op_codes.Act.{Act}
-use Rattle.service.specs.declared.control.op_codes.Act.the-variants.{TakesControl, Resets, Starts, Halts, Stores}
+use Rattle.service.specs.declared.control.op_codes.Act.the-variants.{TakesControl, Resets, Starts, Halts, Stores, SpinsDown}
 use Rattle.service.specs.declared.control.op_codes.Bound.{Bound}
 use Rattle.service.specs.declared.control.op_codes.Bound.the-variants.{Free, Speed, Inclination, Resistance, Power, HeartRate, OneOrTwo}
 use Rattle.service.specs.declared.control.judging.WriteResult.{WriteResult}
 use Rattle.service.specs.declared.control.judging.WriteResult.the-variants.{Success, NotSupported, InvalidParameter, OperationFailed, ControlNotPermitted}
 use Rattle.service.specs.Control.Ranges.{allowed}
+use Rattle.service.specs.Control.SpinDown.{followed-by}
 use Rattle.service.specs.Control.Judging.{result-number}
 use Rattle.service.specs.Control.Effects.{response-octets, status-octets, halted-to, done}
 use Rattle.service.specs.Control.Console.{absent, client-at, is-connected, first}
@@ -36,7 +37,7 @@ use Rattle.demands.specs.Control.Point.{Call, write, service, Event, eve
 use Rattle.demands.specs.Control.Laws.{Sound, by, parameter, succeeded}
 use Rattle.demands.specs.Control.History.{accepted, did, halted, mode-by, responded, still-due, awaited-by, joined, shown, connected-by, indicating-by, ByHistory, ModeByHistory, AwaitedByHistory, ConnectedByHistory, IndicatingByHistory}
 use Rattle.demands.proofs.ControlLaws.Numbers.{not-01}
-use Rattle.demands.proofs.ControlLaws.Steps.{Stepped, refusal, connected, gone, indicated, confirmed, denied, granted, steps}
+use Rattle.demands.proofs.ControlLaws.Steps.{Stepped, refusal, connected, gone, indicated, confirmed, denied, granted, fed, steps}
 use Rattle.demands.proofs.ControlLaws.Kept.{here, sound-step, all-absent, sound-first, opened-first}
 
 -- ---- what holds for each event holds for all events
@@ -66,7 +67,7 @@ next-mode e before =
     (cond (succeeded 0x08 e) (halted (number 1 (parameter (e .call))) before) before))
 
 -- only 01 resets, only 07 starts, and only 08 halts, with 1 or 2
-abbrev one-or-two : Bound → Bool
+abbrev pub one-or-two : Bound → Bool
 one-or-two Free = false
 one-or-two Speed = false
 one-or-two Inclination = false
@@ -84,12 +85,13 @@ moves o b Resets = eqb o 0x01
 moves o b Starts = eqb o 0x07
 moves o b Halts = eqb o 0x08 && one-or-two b
 moves o b (Stores at) = other o
+moves o b SpinsDown = other o
 
-not-so : (b : Bool) → not b ≡ true → b ≡ false
+pub not-so : (b : Bool) → not b ≡ true → b ≡ false
 not-so true e = absurd (true≢false (sym e))
 not-so false e = refl
 
-bound-so : (b : Bound) → one-or-two b ≡ true → b ≡ OneOrTwo
+pub bound-so : (b : Bound) → one-or-two b ≡ true → b ≡ OneOrTwo
 bound-so Free e = absurd (true≢false (sym e))
 bound-so Speed e = absurd (true≢false (sym e))
 bound-so Inclination e = absurd (true≢false (sym e))
@@ -111,9 +113,9 @@ halted-so n before e = elim (tested (eqb n 1)) [
     two l g h = omega arith
 
 -- a write that succeeds
-module _ (m : Machine) (c o : ℕ) (p said : List ℕ) where
+module _ (m : Machine) (c o : ℕ) (p more said : List ℕ) where
   abbrev success-event : Event
-  success-event = event (write c (o ∷ p)) (sent (response-octets o Success) said)
+  success-event = event (write c (o ∷ p)) (sent (response-octets o Success ++ more) said)
 
   unmoved : other o ≡ true → m .mode ≡ next-mode success-event (m .mode)
   unfolding next-mode
@@ -135,6 +137,7 @@ module _ (m : Machine) (c o : ℕ) (p said : List ℕ) where
       let f : b ≡ OneOrTwo = bound-so b (and-r (eqb o 0x08) (one-or-two b) h) in
       rw e (halted-so (number 1 p) (m .mode) (rw f at t))
   mode-done b (Stores at) h t = unmoved h
+  mode-done b SpinsDown h t = unmoved h
 
 mode-stepped : (k : Console) {q : Call} {x : Answer Sent × Console} → Stepped k q x → x .1 .machine .mode ≡ next-mode (event q (x .0)) (k .machine .mode)
 unfolding next-mode
@@ -145,8 +148,9 @@ mode-stepped k (indicated c on h e) = refl
 mode-stepped k (confirmed c h e f) = refl
 mode-stepped k (denied c o p h r e) = rw (not-01 r e)
 mode-stepped k (granted c o p h x e g) =
-    unfold next-mode in mode-done (k .machine) c o p (status-octets (x .status) p) (x .bound) (x .act) (table-rule (λ o x. moves o (x .bound) (x .act)) refl o x e)
+    unfold next-mode in mode-done (k .machine) c o p (followed-by (k .machine .setup .speeds) (x .act) (number 1 p)) (status-octets (x .status) p) (x .bound) (x .act) (table-rule (λ o x. moves o (x .bound) (x .act)) refl o x e)
     (allowed-fit (k .machine .setup .ranges) x p (g .suits))
+mode-stepped k (fed v) = refl
 
 pub mode-by-history : ModeByHistory service
 unfolding mode-by next-mode
@@ -175,6 +179,7 @@ awaited-stepped k (indicated c on h e) = refl
 awaited-stepped k (confirmed c h e f) = rw f
 awaited-stepped k (denied c o p h r e) = rw (result-in-five r)
 awaited-stepped k (granted c o p h x e g) = refl
+awaited-stepped k (fed v) = refl
 
 pub awaited-by-history : AwaitedByHistory service
 unfolding awaited-by next-awaited
@@ -211,6 +216,7 @@ link-stepped k s d (indicated c on h e) =
 link-stepped k s d (confirmed c h e f) = same-link (eqb c d) (client-at k d)
 link-stepped k s d (denied c o p h r e) = same-link (eqb c d) (client-at k d)
 link-stepped k s d (granted c o p h x e g) = same-link (eqb c d) (client-at k d)
+link-stepped k s d (fed v) = refl
 
 link-by : ℕ → List Event → Link
 link-by d past = record { connected = connected-by d past; indicating = indicating-by d past }

@@ -21,9 +21,11 @@ use Rattle.service.specs.declared.control.op_codes.Lookup.the-variants.{Known, 
 use Rattle.service.specs.Control.Ranges as ranges
 use Rattle.service.specs.Control.OpCodes.{op-code}
 use Rattle.service.specs.Control.Parameters as parameters
+use Rattle.service.specs.declared.control.spin_down.TargetSpeeds.{TargetSpeeds}
+use Rattle.service.specs.Control.SpinDown.{on}
 use Rattle.service.specs.Control.Machine.{is, someone, without}
-use Rattle.service.specs.Control.Judging.{result-number, supports, controls, fit, runs, no-halt, fails, first-of, judged, result-of, result}
-use Rattle.service.specs.Control.Effects.{success-status, success, setting}
+use Rattle.service.specs.Control.Judging.{result-number, supports, controls, fit, runs, no-halt, no-start, fails, first-of, judged, result-of, result}
+use Rattle.service.specs.Control.Effects.{success-followed, success-status, success, setting}
 use Rattle.demands.specs.Control.Laws.{stores}
 use Rattle.demands.specs.Control.Rules as rule
 use Rattle.demands.specs.Control.Rules.{counting, octets, picked, sum}
@@ -59,6 +61,11 @@ supported-so f = every (λ o. supported-by f (op-code o)) (λ o. rule.supported 
 pub status-so : (p : List ℕ) (o : ℕ) → o ≤ 255 → success-status (op-code o) p ≡ rule.status o p
 unfolding op-code
 status-so p = every (λ o. success-status (op-code o) p) (λ o. rule.status o p) refl
+
+-- what follows a result of 01: W-201's speeds after a start, and nothing after any other op code or parameter
+pub followed-so : (t : TargetSpeeds) (p : List ℕ) (o : ℕ) → o ≤ 255 → success-followed t (op-code o) p ≡ rule.followed t o p
+unfolding op-code
+followed-so t p = every (λ o. success-followed t (op-code o) p) (λ o. rule.followed t o p) refl
 
 abbrev widths-of : Lookup → List Width
 widths-of (Known x) = parameters.widths (x .parameter)
@@ -99,6 +106,15 @@ module _ (m : Machine) (c : ℕ) where
   pub pause-so : (o : ℕ) → o ≤ 255 → success m c (op-code o) (2 ∷ []) .mode ≡ rule.mode o 2 (m .mode)
   unfolding op-code number
   pause-so = every (λ o. success m c (op-code o) (2 ∷ []) .mode) (λ o. rule.mode o 2 (m .mode)) refl
+
+  -- for the parameters that 13 may have
+  pub start-so : (o : ℕ) → o ≤ 255 → success m c (op-code o) (1 ∷ []) .run ≡ rule.run o 1 (m .run)
+  unfolding op-code number
+  start-so = every (λ o. success m c (op-code o) (1 ∷ []) .run) (λ o. rule.run o 1 (m .run)) refl
+
+  pub ignore-so : (o : ℕ) → o ≤ 255 → success m c (op-code o) (2 ∷ []) .run ≡ rule.run o 2 (m .run)
+  unfolding op-code number
+  ignore-so = every (λ o. success m c (op-code o) (2 ∷ []) .run) (λ o. rule.run o 2 (m .run)) refl
 
   -- "01 zeroes every setting", "02 to 06, 09 to 12 and 14 store the parameter octets"
   pub settings-so : (p : List ℕ) (o : ℕ) → o ≤ 255 → success m c (op-code o) p .settings ≡ rule.settings o p (m .settings)
@@ -141,6 +157,12 @@ another-so (Client d) c = elim (tested (eqb d c)) [
   | failed e ↦ rw e
 ]
 
+and-turned : (a b : Bool) → (a && b) ≡ (b && a)
+and-turned true true = refl
+and-turned true false = refl
+and-turned false true = refl
+and-turned false false = refl
+
 runs-so : (a : Mode) → runs a ≡ rule.running a
 runs-so Stopped = refl
 runs-so Running = refl
@@ -174,12 +196,14 @@ module _ (m : Machine) (c : ℕ) (p : List ℕ) where
   abbrev failing : ℕ → Bool
   failing o =
       cond (eqb o 0x00) (someone (without (m .holder) c))
-      (cond (eqb o 0x07) (runs (m .mode)) (cond (eqb o 0x08) (no-halt (m .mode) (number 1 p)) false))
+      (cond (eqb o 0x07) (runs (m .mode))
+      (cond (eqb o 0x08) (no-halt (m .mode) (number 1 p)) (cond (eqb o 0x13) (no-start (m .run) (number 1 p)) false)))
 
-  failing-rule : (o : ℕ) → failing o ≡ rule.fails (m .setup) (m .holder) (m .mode) c o p
+  failing-rule : (o : ℕ) → failing o ≡ rule.fails (m .setup) (m .holder) (m .mode) (on (m .run)) c o p
   failing-rule o = λ i.
       cond (eqb o 0x00) (another-so (m .holder) c i)
-      (cond (eqb o 0x07) (runs-so (m .mode) i) (cond (eqb o 0x08) (halts-so (m .mode) (number 1 p) i) false))
+      (cond (eqb o 0x07) (runs-so (m .mode) i)
+      (cond (eqb o 0x08) (halts-so (m .mode) (number 1 p) i) (cond (eqb o 0x13) (and-turned (on (m .run)) (eqb (number 1 p) 1) i) false)))
 
   failing-so : (o : ℕ) → o ≤ 255 → failing-by m c (op-code o) (number 1 p) ≡ failing o
   unfolding op-code
@@ -196,10 +220,10 @@ module _ (m : Machine) (c : ℕ) (p : List ℕ) where
   numbered true true true true = refl
 
   -- "A write is judged in this order": the result, for every machine, client, octet and parameter
-  pub result-so : (o : ℕ) → o ≤ 255 → result-number (result m c o p) ≡ rule.result (m .setup) (m .holder) (m .mode) c o p
+  pub result-so : (o : ℕ) → o ≤ 255 → result-number (result m c o p) ≡ rule.result (m .setup) (m .holder) (m .mode) (on (m .run)) c o p
   result-so o h =
       let s : supported-by (m .setup .feature) (op-code o) ≡ rule.supported (m .setup .feature .targets) o = supported-so (m .setup .feature) o h in
       ap result-number (judged-by (op-code o)) ∙
       (λ i. result-number (first-of (s i) (controlled-so o h i) (fit-so o h i) ((failing-so o h ∙ failing-rule o) i))) ∙
       numbered (rule.supported (m .setup .feature .targets) o) (eqb o 0x00 || is (m .holder) c)
-      (eqb (length p) (rule.size o) && rule.allowed (m .setup .ranges) o p) (rule.fails (m .setup) (m .holder) (m .mode) c o p)
+      (eqb (length p) (rule.size o) && rule.allowed (m .setup .ranges) o p) (rule.fails (m .setup) (m .holder) (m .mode) (on (m .run)) c o p)

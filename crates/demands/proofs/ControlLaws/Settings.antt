@@ -14,7 +14,7 @@ use Rattle.service.specs.declared.control.machine.Machine.{Machine}
 use Rattle.service.specs.declared.control.machine.Who.the-variants.{Client}
 use Rattle.service.specs.declared.control.op_codes.OpCode.{OpCode}
 use Rattle.service.specs.declared.control.op_codes.Act.{Act}
-use Rattle.service.specs.declared.control.op_codes.Act.the-variants.{TakesControl, Resets, Starts, Halts, Stores}
+use Rattle.service.specs.declared.control.op_codes.Act.the-variants.{TakesControl, Resets, Starts, Halts, Stores, SpinsDown}
 use Rattle.service.specs.declared.control.op_codes.Lookup.the-variants.{Known}
 use Rattle.service.specs.declared.control.judging.WriteResult.the-variants.{Success}
 use Rattle.service.specs.Control.OpCodes.{op-code}
@@ -30,7 +30,7 @@ use Rattle.demands.specs.Control.Point.{Call, write, service, Event, eve
 use Rattle.demands.specs.Control.Laws.{Sound, keeps, stores, zero-setting, parameter, result-in, succeeded, setting-by}
 use Rattle.demands.specs.Control.History.{SettingByHistory}
 use Rattle.demands.proofs.ControlLaws.Numbers.{Number, number-so, not-01}
-use Rattle.demands.proofs.ControlLaws.Steps.{Stepped, refusal, connected, gone, indicated, confirmed, denied, granted, steps}
+use Rattle.demands.proofs.ControlLaws.Steps.{Stepped, refusal, connected, gone, indicated, confirmed, denied, granted, fed, steps}
 use Rattle.demands.proofs.ControlLaws.Places.{stored-same, stored-other, zero-at}
 use Rattle.demands.proofs.ControlLaws.Kept.{opened-first, sound-first, sound-step}
 use Rattle.demands.proofs.ControlLaws.Changes.{is-client}
@@ -58,6 +58,7 @@ module _ (m : Machine) (w : length (m .settings) ≡ 49) (c i : ℕ) (y : OpCode
     next-done Resets f h = rw h (unfold setting in zero-at o)
     next-done Starts f h = unfold setting in untouched (rw f) (λ (q : i ≡ 1). omega arith)
     next-done Halts f h = unfold setting in untouched (rw f) (λ (q : i ≡ 1). omega arith)
+    next-done SpinsDown f h = unfold setting in untouched (rw f) (λ (q : i ≡ 1). omega arith)
     next-done (Stores b) f h = rw (eqb-false (λ (q : i ≡ 1). omega arith)) (elim (tested (eqb i o)) [
       | passed t ↦ rw (t, ← eqb-eq i o t) (stored-same m i y b p e f n w)
       | failed t ↦ rw t (stored-other m i y b p e f n o (λ (q : o ≡ i). eqb-ne i o t (sym q)))
@@ -74,6 +75,7 @@ next-stepped k s o t (confirmed c h f g) = refl
 next-stepped k s o t (denied c i p h r f) = rw (not-01 r f)
 next-stepped k s o t (granted c i p h y e g) =
     next-done (k .machine) (s .room) c i y e p (length-fit (k .machine .setup .ranges) y p (g .suits)) o t (y .act) refl (number-so i y e)
+next-stepped k s o t (fed v) = refl
 
 -- ---- sequences of calls
 
@@ -107,6 +109,7 @@ granted-to-holder k c o p t h = from (steps k (write c (o ∷ p))) h
     from-act Starts e f = is-client (k .machine .holder) c f
     from-act Halts e f = is-client (k .machine .holder) c f
     from-act (Stores at) e f = is-client (k .machine .holder) c f
+    from-act SpinsDown e f = is-client (k .machine .holder) c f
 
     from : {x : Answer Sent × Console} → Stepped k (write c (o ∷ p)) x → result-in (x .0) ≡ result-number Success → k .machine .holder ≡ Client c
     from (refusal n l g) f = absurd (omega arith)

@@ -1,8 +1,8 @@
--- What a call may come to: a refusal, or one of six other cases. Every law of the control point is proved by them.
+-- What a call may come to: a refusal, or one of seven other cases. Every law of the control point is proved by them.
 use Prim.Native.Nat.{ℕ, _≤_}
 use mathlib.Core.Path.{_≡_, refl}
 use mathlib.Core.Bool.{Bool, true, false, cond}
-use mathlib.Core.List.{List, [], _∷_}
+use mathlib.Core.List.{List, [], _∷_, _++_}
 use lib.Dec.{ltb, lit≤, eqb·suc-zero}
 use lib.ListN.{length, set}
 use Rattle.record.specs.Answer.{Answer}
@@ -15,15 +15,17 @@ use Rattle.service.specs.declared.control.op_codes.Lookup.the-variants.{Known, 
 use Rattle.service.specs.declared.control.judging.WriteResult.{WriteResult}
 use Rattle.service.specs.declared.control.judging.WriteResult.the-variants.{Success, NotSupported}
 use Rattle.service.specs.Control.OpCodes.{op-code}
-use Rattle.service.specs.Control.Machine.{is, someone, without, freed}
+use Rattle.record.specs.Octets.{number}
+use Rattle.service.specs.Control.SpinDown.{followed-by, said-at, run-at}
+use Rattle.service.specs.Control.Machine.{is, someone, without, freed, spinning}
 use Rattle.service.specs.Control.Judging.{succeeds}
 use Rattle.service.specs.Control.Effects.{response-octets, status-octets, done}
-use Rattle.service.specs.Control.Console.{absent, is-connected, is-indicating, with-client, awaiting}
+use Rattle.service.specs.Control.Console.{absent, is-connected, is-indicating, with-client, with-machine, awaiting}
 use Rattle.service.specs.Control.Replies.{Sent, refuses, accepts, responds}
-use Rattle.service.specs.Control.Calls.{connects, disconnects, indicates, confirms, answers, writes}
+use Rattle.service.specs.Control.Calls.{connects, disconnects, indicates, confirms, answers, writes, feeds}
 use Rattle.service.proofs.ControlLaws.Fits.{Granted, Judged, against, for, judged-so}
 use Rattle.record.proofs.Tests.{passed, failed, tested, ltb-le}
-use Rattle.demands.specs.Control.Point.{Call, connect, disconnect, confirm, indicate, write, step}
+use Rattle.demands.specs.Control.Point.{Call, connect, disconnect, confirm, indicate, write, flywheel, step}
 use Rattle.demands.specs.Control.Laws.{Heard}
 
 -- a console with another machine, in which a client's response awaits confirmation
@@ -44,7 +46,12 @@ pub data Stepped (k : Console) : Call → Answer Sent × Console → Type 0 wher
       Stepped k (write c (o ∷ p)) (responds (response-octets o r) [] (awaiting k (Client c)))
   granted : (c o : ℕ) (p : List ℕ) → Heard k c → (x : OpCode) → op-code o ≡ Known x → Granted (k .machine) c x p →
       Stepped k (write c (o ∷ p))
-      (responds (response-octets o Success) (status-octets (x .status) p) (responding k (done (k .machine) c (x .act) p) c))
+      (responds (response-octets o Success ++ followed-by (k .machine .setup .speeds) (x .act) (number 1 p)) (status-octets (x .status) p)
+      (responding k (done (k .machine) c (x .act) p) c))
+  fed : (v : ℕ) →
+      Stepped k (flywheel v)
+      (responds [] (said-at (k .machine .setup .speeds) (k .machine .run) v)
+      (with-machine k (spinning (k .machine) (run-at (k .machine .setup .speeds) (k .machine .run) v))))
 
 -- ---- the calls that write nothing
 
@@ -97,7 +104,8 @@ module _ (k : Console) (c : ℕ) where
 module _ (k : Console) (c o : ℕ) (p : List ℕ) (h : Heard k c) where
   result-steps : (x : OpCode) → op-code o ≡ Known x → {r : WriteResult} → Judged (k .machine) c x p r →
       Stepped k (write c (o ∷ p))
-      (responds (response-octets o r) (cond (succeeds r) (status-octets (x .status) p) [])
+      (responds (response-octets o r ++ cond (succeeds r) (followed-by (k .machine .setup .speeds) (x .act) (number 1 p)) [])
+      (cond (succeeds r) (status-octets (x .status) p) [])
       (responding k (cond (succeeds r) (done (k .machine) c (x .act) p) (k .machine)) c))
   result-steps x e {r} (against f) = rw f (denied c o p h r f)
   result-steps x e (for g) = granted c o p h x e g
@@ -128,9 +136,14 @@ write-steps k c s = elim (tested (ltb 3 c)) [
       ]
     ]
 
+feed-steps : (k : Console) (v : ℕ) → Stepped k (flywheel v) (feeds k v)
+unfolding feeds
+feed-steps k v = fed v
+
 pub steps : (k : Console) (q : Call) → Stepped k q (step k q)
 steps k (connect c) = connect-steps k c
 steps k (disconnect c) = disconnect-steps k c
 steps k (confirm c) = confirm-steps k c
 steps k (indicate c on) = indicate-steps k c on
 steps k (write c s) = write-steps k c s
+steps k (flywheel v) = feed-steps k v

@@ -6,11 +6,12 @@ use lib.IntN.{pos, negsuc}
 use Rattle.record.specs.Answer.{Answer, refused, given}
 use Rattle.service.specs.declared.control.Console.{Console}
 use Rattle.service.specs.declared.control.ranges.Ranges.{Ranges}
+use Rattle.service.specs.declared.control.spin_down.TargetSpeeds.{TargetSpeeds}
 use Rattle.service.specs.Control.Replies.{Sent, sent}
 use Rattle.service.specs.Control.Calls.{opening, opened}
 use Rattle.demands.specs.Control.Point.{Call, connect, confirm, indicate, write, service, latest, run}
 
--- ranges, and a machine with every target bit except 5, energy
+-- ranges, target speeds, and a machine with every target bit except 5, energy
 abbrev pub ranges : Ranges
 ranges = record {
   speed = record { least = 100; greatest = 2000 };
@@ -20,8 +21,11 @@ ranges = record {
   «heart_rate» = record { least = 60; greatest = 200 };
 }
 
+abbrev pub speeds : TargetSpeeds
+speeds = record { low = 1000; high = 2000 }
+
 abbrev pub console : Answer Console
-console = opened (opening (0 ∷ 0 ∷ 0 ∷ 0 ∷ 0xdf ∷ 0xff ∷ 0xff ∷ 0xff ∷ []) ranges)
+console = opened (opening (0 ∷ 0 ∷ 0 ∷ 0 ∷ 0xdf ∷ 0xff ∷ 0xff ∷ 0xff ∷ []) ranges speeds)
 
 -- the answer to the last of the calls from opening on
 abbrev pub answer-to : Answer Console → List Call → Answer Sent
@@ -56,7 +60,8 @@ cases =
     (ready 0 ++ write 0 (0 ∷ []) ∷ [] gives sent (0x80 ∷ 0 ∷ 1 ∷ []) []) ∷
     (holds 0 ++ ready 1 ++ write 1 (0 ∷ []) ∷ [] gives sent (0x80 ∷ 0 ∷ 4 ∷ []) []) ∷
     (holds 0 ++ ready 1 ++ write 1 (0 ∷ 0 ∷ []) ∷ [] gives sent (0x80 ∷ 0 ∷ 3 ∷ []) []) ∷
-    (ready 0 ++ write 0 (0x13 ∷ 1 ∷ []) ∷ [] gives sent (0x80 ∷ 0x13 ∷ 2 ∷ []) []) ∷
+    (ready 0 ++ write 0 (0x13 ∷ 1 ∷ []) ∷ [] gives sent (0x80 ∷ 0x13 ∷ 5 ∷ []) []) ∷
+    (ready 0 ++ write 0 (0x15 ∷ 1 ∷ []) ∷ [] gives sent (0x80 ∷ 0x15 ∷ 2 ∷ []) []) ∷
     (holds 0 ++ write 0 (9 ∷ 1 ∷ 0 ∷ []) ∷ [] gives sent (0x80 ∷ 9 ∷ 2 ∷ []) []) ∷
     (ready 0 ++ write 0 (2 ∷ 0xe8 ∷ 3 ∷ []) ∷ [] gives sent (0x80 ∷ 2 ∷ 5 ∷ []) []) ∷
     (holds 0 ++ write 0 (2 ∷ 0xe8 ∷ 3 ∷ []) ∷ [] gives sent (0x80 ∷ 2 ∷ 1 ∷ []) (5 ∷ 0xe8 ∷ 3 ∷ [])) ∷

@@ -17,7 +17,7 @@ use Rattle.service.specs.Control.Effects.{setting}
 use Rattle.service.specs.Control.Console.{is-connected, is-indicating}
 use Rattle.service.specs.Control.Replies.{refusal-of}
 use Rattle.service.specs.Control.Calls.{Opening}
-use Rattle.demands.specs.Control.Point.{Call, connect, disconnect, confirm, indicate, write, Point, Event, run}
+use Rattle.demands.specs.Control.Point.{Call, connect, disconnect, confirm, indicate, write, flywheel, Point, Event, run}
 use Rattle.demands.specs.Control.Laws.{stores, by, parameter, result-in, succeeded, holder-by, setting-by}
 
 -- a call that was not refused, and such a call by this client
@@ -60,6 +60,7 @@ still-due (disconnect c) w = no-longer c w
 still-due (confirm c) w = no-longer c w
 still-due (indicate c on) w = w
 still-due (write c s) w = w
+still-due (flywheel v) w = w
 
 unfoldable pub awaited-by : List Event → Who
 awaited-by [] = Nobody
@@ -76,6 +77,7 @@ joined (disconnect c) before = false
 joined (confirm c) before = before
 joined (indicate c on) before = before
 joined (write c s) before = before
+joined (flywheel v) before = before
 
 -- "Indications are off at connect"; "Disconnect frees .. its indications"; "indications on and off"
 abbrev pub shown : Call → Bool → Bool
@@ -84,6 +86,7 @@ shown (disconnect c) before = false
 shown (confirm c) before = before
 shown (indicate c on) before = on
 shown (write c s) before = before
+shown (flywheel v) before = before
 
 -- "At first .. no client is connected"
 unfoldable pub connected-by : ℕ → List Event → Bool

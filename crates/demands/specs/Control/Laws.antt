@@ -15,19 +15,20 @@ use Rattle.service.specs.declared.control.machine.Who.{Who}
 use Rattle.service.specs.declared.control.machine.Who.the-variants.{Nobody, Client}
 use Rattle.service.specs.declared.control.op_codes.OpCode.{OpCode}
 use Rattle.service.specs.declared.control.op_codes.Act.{Act}
-use Rattle.service.specs.declared.control.op_codes.Act.the-variants.{TakesControl, Resets, Starts, Halts, Stores}
+use Rattle.service.specs.declared.control.op_codes.Act.the-variants.{TakesControl, Resets, Starts, Halts, Stores, SpinsDown}
 use Rattle.service.specs.declared.control.op_codes.Lookup.{Lookup}
 use Rattle.service.specs.declared.control.op_codes.Lookup.the-variants.{Known, Unknown}
 use Rattle.service.specs.declared.control.judging.WriteResult.the-variants.{Success}
 use Rattle.service.specs.Control.Ranges.{allowed}
 use Rattle.service.specs.Control.OpCodes.{op-code}
 use Rattle.service.specs.Control.Parameters.{size}
+use Rattle.service.specs.Control.SpinDown.{on}
 use Rattle.service.specs.Control.Machine.{is, someone}
 use Rattle.service.specs.Control.Judging.{result-number}
 use Rattle.service.specs.Control.Effects.{setting}
 use Rattle.service.specs.Control.Console.{absent, is-connected, is-indicating}
 use Rattle.service.specs.Control.Replies.{Sent, refusal-of, response-of, status-of}
-use Rattle.demands.specs.Control.Point.{Call, connect, disconnect, confirm, indicate, write, Event}
+use Rattle.demands.specs.Control.Point.{Call, connect, disconnect, confirm, indicate, write, flywheel, Event}
 
 -- ---- invariants
 
@@ -51,6 +52,7 @@ keeps Resets = false
 keeps Starts = false
 keeps Halts = false
 keeps (Stores at) = true
+keeps SpinsDown = false
 
 abbrev pub stores : Lookup → Bool
 stores (Known x) = keeps (x .act)
@@ -66,21 +68,24 @@ pub data Right (ranges : Ranges) : Lookup → List ℕ → Type 0 where
   at-zero : {l : Lookup} {p : List ℕ} → p ≡ zero-setting l → Right ranges l p
   set-to : {x : OpCode} {p : List ℕ} → length p ≡ size (x .parameter) → allowed ranges (x .bound) p ≡ true → Right ranges (Known x) p
 
--- what holds for every console that calls have led to: its clients, the length of its settings, and each setting
+-- what holds for every console that calls have led to: its clients, the length of its settings, each setting, and that a run is there only while a
+-- client holds control, who is connected by the first. W-201: "Reset, disconnect of the holder or an ignore ends a run"
 pub record Sound (k : Console) : Type 0 where
   pub links : Links k
   pub room : length (k .machine .settings) ≡ 49
   pub right : (o : ℕ) → Right (k .machine .setup .ranges) (op-code o) (setting (k .machine) o)
+  pub run-held : on (k .machine .run) ≡ true → someone (k .machine .holder) ≡ true
 
 -- ---- who calls, and what was granted
 
--- who makes a call: "Calls: connect, disconnect, indications on and off, write, confirm."
+-- who makes a call: "Calls: connect, disconnect, indications on and off, write, confirm."; no client feeds a speed
 abbrev pub by : Call → Who
 by (connect c) = Client c
 by (disconnect c) = Client c
 by (confirm c) = Client c
 by (indicate c on) = Client c
 by (write c s) = Client c
+by (flywheel v) = Nobody
 
 -- the octets after the op code: "store the parameter octets"
 abbrev pub parameter : Call → List ℕ
@@ -89,6 +94,7 @@ parameter (disconnect c) = []
 parameter (confirm c) = []
 parameter (indicate c on) = []
 parameter (write c s) = drop 1 s
+parameter (flywheel v) = []
 
 -- "Response: 80, op code, result."
 abbrev pub op-in : Answer Sent → ℕ
@@ -108,14 +114,15 @@ is-disconnect (disconnect c) = true
 is-disconnect (confirm c) = false
 is-disconnect (indicate c on) = false
 is-disconnect (write c s) = false
+is-disconnect (flywheel v) = false
 
 -- a client's successful reset, or its disconnect: "01 zeroes every setting, stops and frees control"
 abbrev pub ends : ℕ → Event → Bool
 ends c e = (succeeded 0x01 e || (is-disconnect (e .call) && eqb (refusal-of (e .answer)) 0)) && is (by (e .call)) c
 
-abbrev pub any : (Event → Bool) → List Event → Bool
+abbrev pub any : {A : Type 0} → (A → Bool) → List A → Bool
 any f [] = false
-any f (e ∷ es) = f e || any f es
+any f (x ∷ xs) = f x || any f xs
 
 -- who holds control that was given to this client, from what came after it
 abbrev pub unless-ended : List Event → Who → Who
@@ -157,11 +164,13 @@ pub record Unchanged (k : Console) (x : Answer Sent × Console) : Type 0 where
 abbrev pub ByAnother : Console → Call → Type 0
 ByAnother k q = (c : ℕ) → k .machine .holder ≡ Client c → by q ≡ Client c → ⊥
 
--- a machine before and after a call that the holder did not make: settings, mode and what was fixed at opening stay. The holder stays, except
+-- a machine before and after a call that the holder did not make: settings, mode and what was fixed at opening stay, and the run stays unless no
+-- client made the call, which feeds a speed. The holder stays, except
 -- that a 00 that succeeds gives control to its client if nobody had it: "not the holder (but for 00), 05". (A disconnect of such a client
 -- changes who is connected, its indications and its awaited response, and nothing else.)
 pub record Spared (m : Machine) (w : Who) (n : Machine) : Type 0 where
   pub same-settings : n .settings ≡ m .settings
   pub same-mode : n .mode ≡ m .mode
   pub same-setup : n .setup ≡ m .setup
+  pub same-run : (n .run ≡ m .run) ⊎ (w ≡ Nobody)
   pub holder-or-new : (n .holder ≡ m .holder) ⊎ ((m .holder ≡ Nobody) × (n .holder ≡ w))

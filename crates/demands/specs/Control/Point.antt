@@ -7,13 +7,14 @@ use mathlib.Core.List.{List, [], _∷_}
 use Rattle.record.specs.Answer.{Answer, refused, given}
 use Rattle.service.specs.declared.control.Console.{Console}
 use Rattle.service.specs.Control.Replies.{Sent, sent}
-use Rattle.service.specs.Control.Calls.{Opening, opened, connects, disconnects, indicates, confirms, writes}
+use Rattle.service.specs.Control.Calls.{Opening, opened, connects, disconnects, indicates, confirms, writes, feeds}
 
--- "Calls: connect, disconnect, indications on and off, write, confirm."
+-- "Calls: connect, disconnect, indications on and off, write, confirm." W-201: "A new call feeds the flywheel speed u16"
 pub data Call : Type 0 where
   connect disconnect confirm : ℕ → Call
   indicate : ℕ → Bool → Call
   write : ℕ → List ℕ → Call
+  flywheel : ℕ → Call
 
 -- a control point with states S: "A machine is opened with a Feature value and its ranges." "Replies come back by value."
 pub record Point (S : Type 0) : Type 0 where
@@ -27,6 +28,7 @@ step k (disconnect c) = disconnects k c
 step k (confirm c) = confirms k c
 step k (indicate c on) = indicates k c on
 step k (write c s) = writes k c s
+step k (flywheel v) = feeds k v
 
 abbrev pub service : Point Console
 service = record { opening = opened; calling = step }

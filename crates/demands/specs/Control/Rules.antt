@@ -1,7 +1,7 @@
--- Document 01's sentences on the op codes as rules on their numbers. The theorems compare them with the table of op codes, for each octet from 0 to 255.
+-- Document 01's sentences on the op codes, and W-201's on 13, as rules on their numbers. The theorems compare them with the table of op codes, for each octet from 0 to 255.
 use Prim.Native.Nat.{ℕ, zero, suc, _+_, _-_}
 use mathlib.Core.Bool.{Bool, true, false, cond, not, _&&_, _||_}
-use mathlib.Core.List.{List, [], _∷_, map}
+use mathlib.Core.List.{List, [], _∷_, _++_, map}
 use lib.Dec.{eqb, leb}
 use lib.IntN.{pos}
 use lib.ListN.{length, take, drop, replicate}
@@ -9,8 +9,11 @@ use lib.Signed.{leZ}
 use Rattle.record.specs.declared.layout.Width.{Width}
 use Rattle.record.specs.declared.layout.Width.the-variants.{U8, U16, U24, S16}
 use Rattle.record.specs.Groups.{has}
-use Rattle.record.specs.Octets.{number, signed, placed}
+use Rattle.record.specs.Octets.{spelled, number, signed, placed}
 use Rattle.service.specs.declared.control.ranges.Ranges.{Ranges}
+use Rattle.service.specs.declared.control.spin_down.TargetSpeeds.{TargetSpeeds}
+use Rattle.service.specs.declared.control.spin_down.Run.{Run}
+use Rattle.service.specs.declared.control.spin_down.Run.the-variants.{Off, Quiet}
 use Rattle.service.specs.declared.control.machine.Setup.{Setup}
 use Rattle.service.specs.declared.control.machine.Mode.{Mode}
 use Rattle.service.specs.declared.control.machine.Mode.the-variants.{Stopped, Running, Paused}
@@ -47,16 +50,18 @@ sum (x ∷ xs) = x + sum xs
 abbrev pub storing : ℕ → Bool
 storing o = to 0x02 0x06 o || (to 0x09 0x12 o || eqb o 0x14)
 
--- "00, 01, 07, 08 are always supported; 02 to 06 need target bits 0 to 4, 09 to 12 need 5 to 14, 14 needs 16.": in a word of target settings
+-- "00, 01, 07, 08 are always supported; 02 to 06 need target bits 0 to 4, 09 to 12 need 5 to 14, 14 needs 16."; "Op code 13 becomes supported
+-- with target bit 15": in a word of target settings
 abbrev pub supported : ℕ → ℕ → Bool
 supported targets o =
     cond (among (0x00 ∷ 0x01 ∷ 0x07 ∷ 0x08 ∷ []) o) true
     (cond (to 0x02 0x06 o) (has targets (o - 2))
     (cond (to 0x09 0x12 o) (has targets (o - 4))
-    (cond (eqb o 0x14) (has targets 16) false)))
+    (cond (eqb o 0x13) (has targets 15)
+    (cond (eqb o 0x14) (has targets 16) false))))
 
 -- "01 gives 01; 07 gives 04; 08 gives 02 and its parameter; 02 to 06 give op code plus 3, 09 to 12 op code plus 1, 14 gives 15, each with the
--- parameter. 00 gives none."
+-- parameter. 00 gives none."; of 13, "a start or an ignore gives none"
 abbrev pub status : ℕ → List ℕ → List ℕ
 status o p =
     cond (eqb o 0x01) (0x01 ∷ [])
@@ -68,10 +73,10 @@ status o p =
 
 -- "02 speed u16, 03 inclination s16, 04 resistance u8, 05 power s16, 06 heart rate u8, .. 08 stop (1) or pause (2), 09 energy u16, 0A steps u16, 0B
 -- strides u16, 0C distance u24, 0D time u16, 0E two zones, 0F three, 10 five, one u16 for each zone, 11 wind s16, grade s16, rolling u8, drag
--- u8, 12 wheel u16, 14 cadence u16": width by width
+-- u8, 12 wheel u16, 14 cadence u16", 13 "parameter 1 starts, 2 ignores": width by width
 abbrev pub widths : ℕ → List Width
 widths o =
-    cond (among (0x04 ∷ 0x06 ∷ 0x08 ∷ []) o) (U8 ∷ [])
+    cond (among (0x04 ∷ 0x06 ∷ 0x08 ∷ 0x13 ∷ []) o) (U8 ∷ [])
     (cond (among (0x03 ∷ 0x05 ∷ []) o) (S16 ∷ [])
     (cond (among (0x02 ∷ 0x09 ∷ 0x0a ∷ 0x0b ∷ 0x0d ∷ 0x12 ∷ 0x14 ∷ []) o) (U16 ∷ [])
     (cond (eqb o 0x0c) (U24 ∷ [])
@@ -83,7 +88,7 @@ widths o =
 -- the number of its octets: one for a u8, three for the u24, two for each zone, six for wind, grade, rolling and drag, and two for any other number
 abbrev pub size : ℕ → ℕ
 size o =
-    cond (among (0x04 ∷ 0x06 ∷ 0x08 ∷ []) o) 1
+    cond (among (0x04 ∷ 0x06 ∷ 0x08 ∷ 0x13 ∷ []) o) 1
     (cond (eqb o 0x0c) 3
     (cond (eqb o 0x0e) 4
     (cond (eqb o 0x0f) 6
@@ -92,7 +97,7 @@ size o =
     (cond (storing o) 2 0))))))
 
 -- the opposite of "value outside its range or 08 with neither 1 nor 2"; "Ranges (least, greatest, both allowed) exist for speed u16, inclination s16,
--- resistance s16, power s16, heart rate u8."
+-- resistance s16, power s16, heart rate u8."; of 13, "result 03 for neither 1 nor 2"
 abbrev pub allowed : Ranges → ℕ → List ℕ → Bool
 allowed r o p =
     cond (eqb o 0x02) (to (r .speed .least) (r .speed .greatest) (number 2 p))
@@ -100,7 +105,7 @@ allowed r o p =
     (cond (eqb o 0x04) (leZ (r .resistance .least) (pos (number 1 p)) && leZ (pos (number 1 p)) (r .resistance .greatest))
     (cond (eqb o 0x05) (leZ (r .power .least) (signed (number 2 p)) && leZ (signed (number 2 p)) (r .power .greatest))
     (cond (eqb o 0x06) (to (r .«heart_rate» .least) (r .«heart_rate» .greatest) (number 1 p))
-    (cond (eqb o 0x08) (to 1 2 (number 1 p)) true)))))
+    (cond (among (0x08 ∷ 0x13 ∷ []) o) (to 1 2 (number 1 p)) true)))))
 
 -- "00 gives control; 01 .. frees control": who holds it after a client's op code has succeeded
 abbrev pub holder : ℕ → ℕ → Who → Who
@@ -110,6 +115,14 @@ holder o c before = cond (eqb o 0x00) (Client c) (cond (eqb o 0x01) Nobody befor
 abbrev pub mode : ℕ → ℕ → Mode → Mode
 mode o x before =
     cond (eqb o 0x01) Stopped (cond (eqb o 0x07) Running (cond (eqb o 0x08) (cond (eqb x 1) Stopped (cond (eqb x 2) Paused before)) before))
+
+-- "parameter 1 starts, 2 ignores"; "Reset, disconnect of the holder or an ignore ends a run": the run after an op code has succeeded
+abbrev pub run : ℕ → ℕ → Run → Run
+run o x before = cond (eqb o 0x01) Off (cond (eqb o 0x13) (cond (eqb x 1) Quiet Off) before)
+
+-- "A successful start answers 80 13 01 followed by a low and a high target speed, u16 each": what follows the result of an op code that has succeeded
+abbrev pub followed : TargetSpeeds → ℕ → List ℕ → List ℕ
+followed t o p = cond (eqb o 0x13 && eqb (number 1 p) 1) (spelled 2 (t .low) ++ spelled 2 (t .high)) []
 
 -- where a setting begins: the settings follow one another in the order of op codes
 abbrev pub place : ℕ → ℕ
@@ -144,15 +157,16 @@ abbrev pub another : Who → ℕ → Bool
 another Nobody c = false
 another (Client d) c = not (eqb d c)
 
--- what a machine was opened with, its holder and its mode; a client, its op code and the parameter
-module _ (s : Setup) (h : Who) (m : Mode) (c o : ℕ) (p : List ℕ) where
+-- what a machine was opened with, its holder, its mode and whether there is a run; a client, its op code and the parameter
+module _ (s : Setup) (h : Who) (m : Mode) (going : Bool) (c o : ℕ) (p : List ℕ) where
   -- "04 when 00 finds another holder, 07 finds running, 08 with 1 finds stopped, or 08 with 2 finds anything but running": this is asked only for 08
-  -- with 1 or 2, since any other parameter gives 03 before
+  -- with 1 or 2, since any other parameter gives 03 before. "04 for a start during a run"
   abbrev pub fails : Bool
   fails =
       cond (eqb o 0x00) (another h c)
       (cond (eqb o 0x07) (running m)
-      (cond (eqb o 0x08) (cond (eqb (number 1 p) 1) (stopped m) (not (running m))) false))
+      (cond (eqb o 0x08) (cond (eqb (number 1 p) 1) (stopped m) (not (running m)))
+      (cond (eqb o 0x13) (eqb (number 1 p) 1 && going) false)))
 
   -- "unsupported op code, result 02; not the holder (but for 00), 05; wrong length, value outside its range or 08 with neither 1 nor 2, result
   -- 03; then 04 when ..; else 01"

@@ -7,3 +7,4 @@ pub mod Callers
 pub mod Courses
 pub mod Needs
 pub mod Orders
+pub mod Coasting

@@ -12,7 +12,7 @@ use Rattle.service.specs.declared.control.machine.Who.the-variants.{Nobody, Cli
 use Rattle.service.specs.Control.Replies.{sent}
 use Rattle.service.specs.Control.Calls.{Opening, opening}
 use Rattle.demands.specs.Control.Point.{write}
-use Rattle.demands.specs.Control.Cases.{asks, holds}
+use Rattle.demands.specs.Control.Cases.{speeds, asks, holds}
 use Rattle.demands.specs.Control.Worked.Seen.{State, state, Row, row, Table, table}
 
 -- least and greatest of speed, inclination, resistance, power and heart rate
@@ -27,7 +27,7 @@ between a b c d e f g h i j = record {
 
 -- a machine with every target setting
 abbrev pub able : Ranges → Opening
-able r = opening (0 ∷ 0 ∷ 0 ∷ 0 ∷ 0xff ∷ 0xff ∷ 0xff ∷ 0xff ∷ []) r
+able r = opening (0 ∷ 0 ∷ 0 ∷ 0 ∷ 0xff ∷ 0xff ∷ 0xff ∷ 0xff ∷ []) r speeds
 
 -- settings by their op codes, and the same with another value for one
 abbrev pub Settings : Type 0

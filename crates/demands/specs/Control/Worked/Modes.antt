@@ -8,12 +8,12 @@ use Rattle.service.specs.declared.control.machine.Who.the-variants.{Nobody, Cli
 use Rattle.service.specs.Control.Replies.{sent}
 use Rattle.service.specs.Control.Calls.{Opening, opening}
 use Rattle.demands.specs.Control.Point.{write}
-use Rattle.demands.specs.Control.Cases.{ranges, asks, holds}
+use Rattle.demands.specs.Control.Cases.{ranges, speeds, asks, holds}
 use Rattle.demands.specs.Control.Worked.Seen.{State, state, Row, row, Table, table}
 
 -- a machine with no target setting: 07 and 08 "are always supported"
 abbrev pub bare : Opening
-bare = opening (0 ∷ 0 ∷ 0 ∷ 0 ∷ 0 ∷ 0 ∷ 0 ∷ 0 ∷ []) ranges
+bare = opening (0 ∷ 0 ∷ 0 ∷ 0 ∷ 0 ∷ 0 ∷ 0 ∷ 0 ∷ []) ranges speeds
 
 -- client 0 holds control and nothing is due; or its response awaits confirmation
 abbrev pub quiet : Mode → State

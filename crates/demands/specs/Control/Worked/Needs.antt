@@ -7,8 +7,9 @@ use lib.Dec.{eqb}
 use Rattle.service.specs.Control.Replies.{sent}
 use Rattle.service.specs.Control.Calls.{opening}
 use Rattle.demands.specs.Control.Point.{write}
-use Rattle.demands.specs.Control.Cases.{holds}
-use Rattle.demands.specs.Control.Worked.Seen.{Row, row, Table, table}
+use Rattle.service.specs.declared.control.spin_down.Run.the-variants.{Quiet}
+use Rattle.demands.specs.Control.Cases.{speeds, holds}
+use Rattle.demands.specs.Control.Worked.Seen.{in-run, Row, row, Table, table}
 use Rattle.demands.specs.Control.Worked.Ends.{takes, stored, standing}
 use Rattle.demands.specs.Control.Worked.Openings.{fair}
 use Rattle.demands.specs.Control.Worked.Courses.{sixteen}
@@ -23,13 +24,21 @@ but-for one x = unsupported 0x13 (1 ∷ []) ∷ map (λ y. cond (eqb (y .0) one)
 
 -- a machine with these target settings, which support that op code alone
 abbrev pub supports : List ℕ → ℕ → ℕ → Table
-supports targets one x = table (opening (0 ∷ 0 ∷ 0 ∷ 0 ∷ targets) fair) (holds 0) (sent [] []) (standing []) (but-for one x)
+supports targets one x = table (opening (0 ∷ 0 ∷ 0 ∷ 0 ∷ targets) fair speeds) (holds 0) (sent [] []) (standing []) (but-for one x)
 
 -- and one with every feature and these target settings, which support none
 abbrev pub supports-none : List ℕ → Table
 supports-none targets =
-    table (opening (0xff ∷ 0xff ∷ 0xff ∷ 0xff ∷ targets) fair) (holds 0) (sent [] []) (standing [])
+    table (opening (0xff ∷ 0xff ∷ 0xff ∷ 0xff ∷ targets) fair speeds) (holds 0) (sent [] []) (standing [])
     (unsupported 0x13 (1 ∷ []) ∷ map (λ y. unsupported (y .0) (y .1)) sixteen)
+
+-- "Op code 13 becomes supported with target bit 15": and no other op code with it
+abbrev pub supports-spin-down : Table
+supports-spin-down =
+    table (opening (0 ∷ 0 ∷ 0 ∷ 0 ∷ 0 ∷ 0x80 ∷ 0 ∷ 0 ∷ []) fair speeds) (holds 0) (sent [] []) (standing [])
+    (row (write 0 (0x13 ∷ 1 ∷ [])) (sent (0x80 ∷ 0x13 ∷ 0x01 ∷ 0xe8 ∷ 0x03 ∷ 0xd0 ∷ 0x07 ∷ []) []) (in-run Quiet (stored [])) ∷
+    row (write 0 (0x13 ∷ 2 ∷ [])) (sent (0x80 ∷ 0x13 ∷ 0x01 ∷ []) []) (stored []) ∷
+    map (λ y. unsupported (y .0) (y .1)) sixteen)
 
 abbrev pub needs : List Table
 needs =
@@ -48,7 +57,7 @@ needs =
     supports (0 ∷ 0x10 ∷ 0 ∷ 0 ∷ []) 0x10 0x11 ∷
     supports (0 ∷ 0x20 ∷ 0 ∷ 0 ∷ []) 0x11 0x12 ∷
     supports (0 ∷ 0x40 ∷ 0 ∷ 0 ∷ []) 0x12 0x13 ∷
-    supports-none (0 ∷ 0x80 ∷ 0 ∷ 0 ∷ []) ∷
+    supports-spin-down ∷
     supports (0 ∷ 0 ∷ 0x01 ∷ 0 ∷ []) 0x14 0x15 ∷
     supports-none (0 ∷ 0 ∷ 0xfe ∷ 0xff ∷ []) ∷
     supports-none (0 ∷ 0 ∷ 0 ∷ 0 ∷ []) ∷ []

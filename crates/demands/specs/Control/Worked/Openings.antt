@@ -9,6 +9,7 @@ use Rattle.service.specs.declared.control.ranges.Ranges.{Ranges}
 use Rattle.service.specs.declared.control.machine.Mode.the-variants.{Stopped}
 use Rattle.service.specs.declared.control.machine.Who.the-variants.{Nobody}
 use Rattle.service.specs.Control.Calls.{Opening, opening, opened}
+use Rattle.demands.specs.Control.Cases.{speeds}
 use Rattle.demands.specs.Control.Worked.Seen.{State, state, state-of}
 use Rattle.demands.specs.Control.Worked.Ends.{between, able}
 
@@ -19,10 +20,14 @@ opens-to (given k) = given (state-of k)
 
 -- a machine with n Feature octets
 abbrev pub with-octets : ℕ → Ranges → Opening
-with-octets n r = opening (replicate n 0) r
+with-octets n r = opening (replicate n 0) r speeds
 
 abbrev pub fair : Ranges
 fair = between 100 2000 (negsuc 99) (pos 150) (pos 5) (pos 50) (negsuc 499) (pos 1200) 60 200
+
+-- one with these target speeds: W-201, "16 also when the low target is not below the high one"
+abbrev pub coasting : ℕ → ℕ → ℕ → Opening
+coasting n low high = opening (replicate n 0) fair (record { low = low; high = high })
 
 abbrev pub swift : Ranges
 swift = between 2001 2000 (negsuc 99) (pos 150) (pos 5) (pos 50) (negsuc 499) (pos 1200) 60 200
@@ -39,7 +44,7 @@ infix 5 _opens_
 abbrev pub at-first : Answer State
 at-first = given (state Stopped Nobody Nobody [] [] [])
 
--- each range alone reversed, by one and by sign, with all target settings, speed's with none too; ranges of one number; the Feature value's length
+-- each range alone reversed, by one and by sign, with all target settings, speed's with none too; ranges of one number; the Feature value's length; low and high
 abbrev pub openings : List Case
 openings =
     (able fair opens at-first) ∷
@@ -58,7 +63,14 @@ openings =
     (with-octets 9 fair opens refused 22) ∷
     (with-octets 0 fair opens refused 22) ∷
     (with-octets 7 swift opens refused 22) ∷
-    (with-octets 9 swift opens refused 22) ∷ []
+    (with-octets 9 swift opens refused 22) ∷
+    (coasting 8 1000 1001 opens at-first) ∷
+    (coasting 8 1000 1000 opens refused 16) ∷
+    (coasting 8 1001 1000 opens refused 16) ∷
+    (coasting 8 0 1 opens at-first) ∷
+    (coasting 8 0 0 opens refused 16) ∷
+    (coasting 8 65535 0 opens refused 16) ∷
+    (coasting 7 1000 1000 opens refused 22) ∷ []
 
 abbrev pub opened-to : List (Answer State)
 opened-to = map (λ x. opens-to (opened (x .opening))) openings

@@ -9,7 +9,7 @@ use Rattle.service.specs.declared.control.machine.Who.the-variants.{Nobody, Cli
 use Rattle.service.specs.Control.Replies.{sent}
 use Rattle.service.specs.Control.Calls.{opening}
 use Rattle.demands.specs.Control.Point.{connect, disconnect, confirm, indicate, write}
-use Rattle.demands.specs.Control.Cases.{ready, asks, holds}
+use Rattle.demands.specs.Control.Cases.{speeds, ready, asks, holds}
 use Rattle.demands.specs.Control.Worked.Seen.{State, state, Row, Table, table}
 use Rattle.demands.specs.Control.Worked.Ends.{Settings, able, declines, standing}
 use Rattle.demands.specs.Control.Worked.Openings.{fair}
@@ -28,7 +28,8 @@ abbrev pub order : Table
 order =
     table (able fair) (holds 0 ++ asks 0 (0x07 ∷ []) ++ ready 1) (sent [] []) running
     (answers 1 0x81 [] 0x02 ∷
-    answers 1 0x13 (1 ∷ []) 0x02 ∷
+    answers 1 0x13 (1 ∷ []) 0x05 ∷
+    answers 1 0x13 (3 ∷ []) 0x05 ∷
     answers 1 0x15 (1 ∷ 0 ∷ []) 0x02 ∷
     answers 1 0xff (replicate 20 0) 0x02 ∷
     answers 0 0x80 [] 0x02 ∷
@@ -45,14 +46,22 @@ order =
     answers 0 0x08 (replicate 600 2) 0x03 ∷
     answers 0 0x02 (replicate 600 0xe8) 0x03 ∷
     answers 0 0x08 (3 ∷ []) 0x03 ∷
+    answers 0 0x13 (0 ∷ []) 0x03 ∷
+    answers 0 0x13 (3 ∷ []) 0x03 ∷
+    answers 0 0x13 (255 ∷ []) 0x03 ∷
+    answers 0 0x13 [] 0x03 ∷
+    answers 0 0x13 (1 ∷ 0 ∷ []) 0x03 ∷
     answers 0 0x07 [] 0x04 ∷ [])
 
 -- the same machine without any target setting: "unsupported op code, result 02" is judged before "not the holder", "wrong length" and "value outside its range"
 abbrev pub lacking : Table
 lacking =
-    table (opening (replicate 8 0) fair) (holds 0 ++ asks 0 (0x07 ∷ []) ++ ready 1) (sent [] []) running
+    table (opening (replicate 8 0) fair speeds) (holds 0 ++ asks 0 (0x07 ∷ []) ++ ready 1) (sent [] []) running
     (answers 1 0x02 (0xe8 ∷ 0x03 ∷ []) 0x02 ∷
     answers 1 0x14 [] 0x02 ∷
+    answers 1 0x13 (1 ∷ []) 0x02 ∷
+    answers 0 0x13 (1 ∷ []) 0x02 ∷
+    answers 0 0x13 (3 ∷ []) 0x02 ∷
     answers 0 0x02 (0xe8 ∷ []) 0x02 ∷
     answers 0 0x02 (0xff ∷ 0xff ∷ []) 0x02 ∷ [])
 

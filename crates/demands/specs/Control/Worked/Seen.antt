@@ -8,6 +8,8 @@ use Rattle.service.specs.declared.control.Console.{Console}
 use Rattle.service.specs.declared.control.machine.Machine.{Machine}
 use Rattle.service.specs.declared.control.machine.Mode.{Mode}
 use Rattle.service.specs.declared.control.machine.Who.{Who}
+use Rattle.service.specs.declared.control.spin_down.Run.{Run}
+use Rattle.service.specs.declared.control.spin_down.Run.the-variants.{Off}
 use Rattle.service.specs.Control.Effects.{setting}
 use Rattle.service.specs.Control.Console.{is-connected, is-indicating}
 use Rattle.service.specs.Control.Replies.{Sent}
@@ -15,7 +17,7 @@ use Rattle.service.specs.Control.Calls.{Opening, opened}
 use Rattle.demands.specs.Control.Point.{Call, service, latest, step, run}
 use Rattle.demands.specs.Control.Rules.{counting, picked, storing}
 
--- mode, holder, whose response awaits, who is connected, whose indications are on, and the settings that are not zero, by their op codes
+-- mode, holder, whose response awaits, who is connected, whose indications are on, the settings that are not zero, by their op codes, and the run
 pub record State : Type 0 where
   pub mode : Mode
   pub holder : Who
@@ -23,9 +25,22 @@ pub record State : Type 0 where
   pub connected : List ℕ
   pub indicating : List ℕ
   pub settings : List (ℕ × List ℕ)
+  pub run : Run
 
+-- a state without a run, and one with this run
 abbrev pub state : Mode → Who → Who → List ℕ → List ℕ → List (ℕ × List ℕ) → State
-state m h w c i s = record { mode = m; holder = h; awaited = w; connected = c; indicating = i; settings = s }
+state m h w c i s = record { mode = m; holder = h; awaited = w; connected = c; indicating = i; settings = s; run = Off }
+
+abbrev pub in-run : Run → State → State
+in-run r s = record {
+  mode = s .mode;
+  holder = s .holder;
+  awaited = s .awaited;
+  connected = s .connected;
+  indicating = s .indicating;
+  settings = s .settings;
+  run = r;
+}
 
 -- "Clients are 0 to 3."
 abbrev pub clients : List ℕ
@@ -41,8 +56,9 @@ not-zero m (o ∷ os) = let rest : List (ℕ × List ℕ) = not-zero m os in con
 
 abbrev pub state-of : Console → State
 state-of k =
-    state (k .machine .mode) (k .machine .holder) (k .awaited) (picked (is-connected k) clients) (picked (is-indicating k) clients)
-    (not-zero (k .machine) (picked storing (counting 0x00 0x15)))
+    in-run (k .machine .run)
+    (state (k .machine .mode) (k .machine .holder) (k .awaited) (picked (is-connected k) clients) (picked (is-indicating k) clients)
+    (not-zero (k .machine) (picked storing (counting 0x00 0x15))))
 
 -- an answer, and the state after it
 pub record Seen : Type 0 where
