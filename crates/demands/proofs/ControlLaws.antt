@@ -16,5 +16,6 @@ pub mod Rules
 pub mod Answered
 pub mod Meets
 pub mod Liars
+pub mod Coasters
 pub mod Ours
 pub mod Possible

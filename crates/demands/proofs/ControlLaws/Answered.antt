@@ -215,7 +215,7 @@ answers-by-history = record {
 
 -- ---- no second control point answers by its history otherwise
 
-run-more : {S : Type 0} (p : Point S) (x : S) (past : List Event) (qs : List Call) (q : Call) →
+pub run-more : {S : Type 0} (p : Point S) (x : S) (past : List Event) (qs : List Call) (q : Call) →
     run p x past (qs ++ q ∷ []) .0 ≡ event q (p .calling (run p x past qs .1) q .0) ∷ run p x past qs .0
 unfolding run
 run-more p x past [] q = refl

@@ -102,7 +102,7 @@ another-stepped : (k : Console) {q : Call} {x : Answer Sent × Console} → Step
     Spared (k .machine) (by q) (x .1 .machine)
 another-stepped k {q} (refusal n l g) h = spared (k .machine) (by q) refl refl refl refl (inl refl)
 another-stepped k (connected c i e) h = spared (k .machine) (Client c) refl refl refl refl (inl refl)
-another-stepped k (gone c i e) h = 
+another-stepped k (gone c i e) h =
     let n : is (k .machine .holder) c ≡ false = is-other (k .machine .holder) c (λ e. h c e refl) in
     spared (k .machine) (Client c) refl refl refl (without-other (k .machine .holder) c (λ e. h c e refl)) (inl (rw n))
 another-stepped k (indicated c on i e) h = spared (k .machine) (Client c) refl refl refl refl (inl refl)
