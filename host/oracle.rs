@@ -7,6 +7,7 @@ mod forms;
 mod losses;
 mod replay;
 mod rules;
+mod runs;
 mod scripts;
 
 use chance::{any_record, damaged, Chance};

@@ -1,9 +1,9 @@
-// What the program `replay` must print for a script on standard input, by the rules of document 01.
-use crate::rules::control::{self, Client, Console, Given, Mode};
+// What the program `replay` must print for a script on standard input, by the rules of document 01 and of request W-201.
+use crate::rules::control::{self, Client, Console, Given, Mode, Speeds};
 use crate::rules::{names, set_of, values, Answer, Collection, Typed};
 use std::io::{self, Write};
 
-fn octets_of(line: &str) -> Vec<u8> {
+pub fn octets_of(line: &str) -> Vec<u8> {
     let digits: Vec<u8> = line.chars().filter_map(|x| if x.is_lowercase() { None } else { x.to_digit(16) }).map(|d| d as u8).collect();
     digits.chunks_exact(2).map(|pair| pair[0] * 16 + pair[1]).collect()
 }
@@ -31,6 +31,15 @@ fn who(client: Option<u8>) -> String {
     client.map_or("nobody".into(), |client| client.to_string())
 }
 
+// A run is quiet until the console says stop pedalling, and warned after it.
+fn run_word(console: &Console) -> &'static str {
+    match &console.run {
+        None => "off",
+        Some(run) if run.has_said_stop(console.speeds.high) => "warned",
+        Some(_) => "quiet",
+    }
+}
+
 fn console_line(replied: &Result<Given, u64>, console: &Console) -> String {
     let none = Given::default();
     let (outcome, given) = match replied {
@@ -50,13 +59,16 @@ fn console_line(replied: &Result<Given, u64>, console: &Console) -> String {
         .map(|(name, (least, greatest))| format!(" {name}={least} to {greatest}"))
         .collect();
     format!(
-        "{outcome} response={} status={} clients:{clients} awaited={} {mode} holder={} settings:{settings} features={} targets={}{ranges}",
+        "{outcome} response={} status={} clients:{clients} awaited={} {mode} holder={} settings:{settings} features={} targets={}{ranges} low={} high={} run={}",
         counted(&given.response),
         counted(&given.status),
         who(console.awaited),
         who(console.holder),
         console.features,
-        console.targets
+        console.targets,
+        console.speeds.low,
+        console.speeds.high,
+        run_word(console)
     )
 }
 
@@ -108,10 +120,15 @@ fn split_line(s: &[u8]) -> String {
     format!("{said} lent:{}", hex(&lent))
 }
 
-fn ranges(s: &[u8]) -> control::Ranges {
+pub fn ranges(s: &[u8]) -> control::Ranges {
     let signed = |place| at(s, place, 2) as u16 as i16 as i64;
     let pair = |place| (signed(place), signed(place + 2));
     [(at(s, 0, 2), at(s, 2, 2)), pair(4), pair(8), pair(12), (at(s, 16, 1), at(s, 17, 1))]
+}
+
+// The target speeds, in the four octets after the ranges.
+pub fn speeds(s: &[u8]) -> Speeds {
+    Speeds { low: at(s, 18, 2) as u16, high: at(s, 20, 2) as u16 }
 }
 
 // What the lines of a script act on.
@@ -122,14 +139,14 @@ pub struct Replay {
 
 impl Replay {
     pub fn new() -> Replay {
-        Replay { console: control::open(&[], [(0, 0); 5]).1, collection: Collection::new(1, None) }
+        Replay { console: control::open(&[], [(0, 0); 5], speeds(&[])).1, collection: Collection::new(1, None) }
     }
 
     fn call(&mut self, word: &str, s: &[u8]) -> Result<Given, u64> {
         let client = at(s, 0, 1) as u8;
         match word {
             "machine" => {
-                let (replied, console) = control::open(s.get(18..).unwrap_or(s), ranges(s));
+                let (replied, console) = control::open(s.get(22..).unwrap_or(s), ranges(s), speeds(s));
                 self.console = console;
                 replied
             }
@@ -138,6 +155,7 @@ impl Replay {
             "on" => self.console.indicate(client, true),
             "off" => self.console.indicate(client, false),
             "confirm" => self.console.confirm(client),
+            "flywheel" => Ok(self.console.flywheel(at(s, 0, 2) as u16)),
             _ => self.console.write(client, s.get(1..).unwrap_or(&[])),
         }
     }
@@ -165,7 +183,7 @@ impl Replay {
                 format!("setting={}", counted(self.console.settings.get(&(at(&s, 0, 1) as u8)).unwrap_or(&none)))
             }
             "split" => split_line(&s),
-            "machine" | "connect" | "disconnect" | "on" | "off" | "confirm" | "write" => {
+            "machine" | "connect" | "disconnect" | "on" | "off" | "confirm" | "flywheel" | "write" => {
                 let replied = self.call(word, &s);
                 console_line(&replied, &self.console)
             }

@@ -1,4 +1,4 @@
-// A second implementation of records, splitting, collecting and listing, and in rules/control.rs of the control point, written from document 01
+// A second implementation of records, splitting, collecting and listing, and in rules/control.rs of the control point, written from the documents
 // alone: it shares no code and no table with the library.
 pub mod control;
 

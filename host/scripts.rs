@@ -3,6 +3,7 @@ use crate::chance::{any_record, any_set, damaged, record_with, Chance};
 use crate::replay::Replay;
 use crate::rules::control::{parameter_length, Mode, Ranges};
 use crate::rules::pieces;
+use crate::runs::{self, Before};
 use std::collections::BTreeSet;
 use std::io::{self, Write};
 
@@ -11,10 +12,10 @@ pub fn hex(octets: &[u8]) -> String {
 }
 
 // The cases that a script has reached, in words.
-struct Seen(BTreeSet<String>);
+pub struct Seen(pub BTreeSet<String>);
 
 impl Seen {
-    fn must_have(&self, words: impl IntoIterator<Item = String>) {
+    pub fn must_have(&self, words: impl IntoIterator<Item = String>) {
         for word in words {
             assert!(self.0.contains(&word), "no line of the script has: {word}");
         }
@@ -56,12 +57,13 @@ fn range_octets(ranges: &Ranges) -> Vec<u8> {
 // Opens a machine, most often with every target setting.
 fn machine(c: &mut Chance) -> String {
     let ranges = any_ranges(c);
+    let speeds = runs::any_speeds(c);
     let length = if c.below(20) == 0 { c.below(12) } else { 8 };
     let mut feature = any_octets(c, length);
     if c.below(2) == 0 {
         feature.iter_mut().skip(4).for_each(|x| *x = 255);
     }
-    format!("machine {}{}", hex(&range_octets(&ranges)), hex(&feature))
+    format!("machine {}{}{}", hex(&range_octets(&ranges)), hex(&speeds), hex(&feature))
 }
 
 // A client: most often one of two, now and then any number.
@@ -86,6 +88,7 @@ fn parameter(c: &mut Chance, op: u8, ranges: &Ranges) -> Vec<u8> {
             value.to_le_bytes()[..length as usize].to_vec()
         }
         0x08 => vec![c.pick(&[1, 2, 1, 2, 1, 2, 0, 3, 255]) as u8],
+        0x13 => vec![c.pick(&[1, 1, 1, 1, 1, 1, 2, 2, 0, 3, 255]) as u8],
         _ => any_octets(c, length),
     }
 }
@@ -98,6 +101,7 @@ fn write(c: &mut Chance, replay: &Replay) -> String {
         1..=5 if console.holder.is_none() => 0,
         2..=3 => 0x07,
         4..=7 => 0x08,
+        8..=9 => 0x13,
         _ => c.below(0x16) as u8,
     };
     let mut octets = vec![op];
@@ -105,8 +109,8 @@ fn write(c: &mut Chance, replay: &Replay) -> String {
     match c.below(40) {
         0 => octets.clear(),
         1..=3 => octets.truncate(1 + c.below(octets.len() as u64) as usize),
-        4..=5 => octets.extend(any_octets(c, 3)),
-        6 => {
+        4..=6 => octets.extend(any_octets(c, 3)),
+        7 => {
             let length = c.pick(&[20, 255, 256, 257, 512, 600]);
             octets.extend(any_octets(c, length));
         }
@@ -115,7 +119,11 @@ fn write(c: &mut Chance, replay: &Replay) -> String {
     format!("write {client:02X} {}", hex(&octets))
 }
 
+// A call; in a run one of three feeds a speed.
 fn call(c: &mut Chance, replay: &Replay) -> String {
+    if c.below(if replay.console.run.is_some() { 3 } else { 40 }) == 0 {
+        return runs::flywheel(c, &replay.console);
+    }
     let client = any_client(c);
     let due = if c.below(8) > 0 { replay.console.awaited.unwrap_or(client) } else { client };
     match c.below(40) {
@@ -129,6 +137,11 @@ fn call(c: &mut Chance, replay: &Replay) -> String {
     }
 }
 
+// The result in a response, after 80 and the op code.
+pub fn result(said: &str) -> &str {
+    &said[said.find(": 80 ").unwrap() + 8..][..2]
+}
+
 // Notes the case that a line reached: its word and its outcome; for a write also the op code and the result, and for 07 and 08 the machine's state
 // before it and the parameter.
 fn note(seen: &mut Seen, line: &str, mode: Mode, said: &str) {
@@ -137,7 +150,7 @@ fn note(seen: &mut Seen, line: &str, mode: Mode, said: &str) {
     seen.0.insert(format!("{word} {outcome}"));
     if outcome == "done" && word == "write" {
         let op = &line[9..11];
-        let result = &said[said.find("response=3: 80 ").unwrap() + 18..][..2];
+        let result = result(said);
         seen.0.insert(format!("{op} {result}"));
         if op == "07" || op == "08" {
             seen.0.insert(format!("{mode:?} {} {result}", &line[9..]));
@@ -147,21 +160,28 @@ fn note(seen: &mut Seen, line: &str, mode: Mode, said: &str) {
 
 fn say(out: &mut impl Write, replay: &mut Replay, seen: &mut Seen, line: String) -> io::Result<()> {
     let mode = replay.console.mode;
+    let before = Before::of(&replay.console);
     let said = replay.line(&line);
     note(seen, &line, mode, &said);
+    runs::note(seen, &before, &line, &said, &replay.console);
     writeln!(out, "{line}")
 }
+
+// The calls that a script begins with; two of three then start a run, where the machine has spin down.
+const FIRST: [&str; 3] = ["connect 00", "on 00", "connect 01"];
+const START: [&str; 5] = ["on 01", "write 00 00", "confirm 00", "write 00 1301", "confirm 00"];
 
 // 100,000 calls in 2,000 scripts, each on a machine of its own.
 pub fn calls(out: &mut impl Write, c: &mut Chance) -> io::Result<()> {
     let (mut replay, mut seen) = (Replay::new(), Seen(BTreeSet::new()));
-    for _ in 0..2000 {
+    for number in 0..2000 {
         let opening = machine(c);
         say(out, &mut replay, &mut seen, opening)?;
-        for line in ["connect 00", "on 00", "connect 01"] {
-            say(out, &mut replay, &mut seen, line.into())?;
+        let start: &[&str] = if number % 3 > 0 { &START } else { &[] };
+        for line in FIRST.iter().chain(start) {
+            say(out, &mut replay, &mut seen, line.to_string())?;
         }
-        for _ in 0..50 {
+        for _ in start.len()..50 {
             let line = call(c, &replay);
             say(out, &mut replay, &mut seen, line)?;
         }
@@ -175,14 +195,15 @@ pub fn calls(out: &mut impl Write, c: &mut Chance) -> io::Result<()> {
             word = next;
         }
     }
-    for op in (0..=0x14).filter(|op| *op != 0x13) {
+    for op in 0..=0x14 {
         seen.must_have([1, 3].iter().map(|result| format!("{op:02X} {result:02X}")));
         seen.must_have((op != 0).then(|| format!("{op:02X} 05")));
         seen.must_have((![0, 1, 7, 8].contains(&op)).then(|| format!("{op:02X} 02")));
     }
-    seen.must_have(["00 04", "13 02", "15 02"].map(String::from));
+    seen.must_have(["00 04", "13 04", "15 02"].map(String::from));
     let judged = "Stopped 07 01,Running 07 04,Paused 07 01,Stopped 0801 04,Running 0801 01,Paused 0801 01,Stopped 0802 04,Running 0802 01,Paused 0802 04";
     seen.must_have(judged.split(',').map(String::from));
+    runs::reached(&seen);
     Ok(())
 }
 

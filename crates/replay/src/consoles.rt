@@ -23,6 +23,8 @@ use service::control::ranges::HeartRateRange;
 use service::control::ranges::Ranges;
 use service::control::ranges::SignedRange;
 use service::control::ranges::SpeedRange;
+use service::control::spin_down::Run;
+use service::control::spin_down::TargetSpeeds;
 
 // The ranges in eighteen octets: speed, inclination, resistance, power and heart rate, each its least value and its greatest.
 fn ranges_at(s: &[u8]) -> Ranges {
@@ -57,12 +59,25 @@ fn signed_range_at(s: &[u8], at: usize) -> SignedRange {
     }
 }
 
-// Opens a machine: its ranges, and all octets after them as the Feature value.
-pub(crate) fn opened(s: &[u8]) -> Reply {
-    if s.len() < 18 {
-        return Console::open(s, ranges_at(s));
+// The target speeds, in the four octets after the ranges.
+fn speeds_at(s: &[u8]) -> TargetSpeeds {
+    TargetSpeeds {
+        low: u16_at(s, 18),
+        high: u16_at(s, 20),
     }
-    Console::open(&s[18..], ranges_at(s))
+}
+
+// Opens a machine: its ranges, its target speeds, and all octets after them as the Feature value.
+pub(crate) fn opened(s: &[u8]) -> Reply {
+    if s.len() < 22 {
+        return Console::open(s, ranges_at(s), speeds_at(s));
+    }
+    Console::open(&s[22..], ranges_at(s), speeds_at(s))
+}
+
+// Feeds the flywheel's speed.
+pub(crate) fn fed(console: Console, s: &[u8]) -> Reply {
+    console.flywheel(u16_at(s, 0))
 }
 
 // A client's write: the client, and all octets after it as what is written.
@@ -145,8 +160,22 @@ fn print_ranges(ranges: Ranges) {
     print_u8(b" to ", ranges.heart_rate.greatest);
 }
 
+fn print_speeds(speeds: TargetSpeeds) {
+    print_u16(b" low=", speeds.low);
+    print_u16(b" high=", speeds.high);
+}
+
+fn print_run(run: Run) {
+    match run {
+        Run::Off => print(b" run=off"),
+        Run::Quiet => print(b" run=quiet"),
+        Run::Warned => print(b" run=warned"),
+    }
+}
+
 fn print_machine(machine: Machine) {
     let mode = machine.mode;
+    let run = machine.run;
     let holder = machine.holder;
     let settings = machine.settings;
     print_mode(mode);
@@ -156,6 +185,8 @@ fn print_machine(machine: Machine) {
     print_u32(b" features=", machine.setup.feature.features);
     print_u32(b" targets=", machine.setup.feature.targets);
     print_ranges(machine.setup.ranges);
+    print_speeds(machine.setup.speeds);
+    print_run(run);
 }
 
 // Two digits: whether the client is connected, whether its indications are on.

@@ -1,7 +1,9 @@
 // A script: its lines are run in turn, on one console and one collection. A line is a word, and octets in hex; numbers have their least octet first.
-//   machine        the ranges (speed, inclination, resistance, power: least and greatest in two octets each; heart rate: in one each), then the Feature value
+//   machine        the ranges (speed, inclination, resistance, power: least and greatest in two octets each; heart rate: in one each), the low and the high
+//                  target speed in two octets each, then the Feature value
 //   connect, disconnect, on, off, confirm    a client
 //   write          a client, then the octets that it writes
+//   flywheel       its speed in two octets
 //   setting        an op code: what it stores
 //   open           a kind;    fixed    a kind and the told set in four octets
 //   notification   its octets
@@ -11,6 +13,7 @@ use crate::collections::print_collection;
 use crate::collections::print_opening;
 use crate::collections::u32_at;
 use crate::consoles::called;
+use crate::consoles::fed;
 use crate::consoles::is_client_call;
 use crate::consoles::opened;
 use crate::consoles::print_counted;
@@ -125,6 +128,9 @@ fn said(replay: Replay, line: &[u8]) -> Replay {
 fn run_console(replay: Replay, line: &[u8], s: &[u8]) -> Replay {
     if begins(line, b"machine ") {
         return replied(replay, opened(s));
+    }
+    if begins(line, b"flywheel ") {
+        return replied(replay, fed(replay.console, s));
     }
     if !is_client_call(line) {
         return said(replay, line);
