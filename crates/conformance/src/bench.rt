@@ -123,10 +123,21 @@ fn print_answer(response: Counted, status: Counted) {
     print_counted(status);
 }
 
+// Whether these are the octets expected, and no more.
+fn are(counted: Counted, expected: &[u8]) -> bool {
+    let octets = counted.octets;
+    check::same(first(&octets, counted.count as usize), expected)
+}
+
 fn is_response(response: Counted, sent: &[u8], result: u8) -> bool {
-    let octets = response.octets;
     let expected = [0x80, u8_at(sent, 0), result];
-    check::same(first(&octets, response.count as usize), &expected)
+    are(response, &expected)
+}
+
+// Whether a status is 14 and this value.
+fn is_spin_down(said: Counted, value: u8) -> bool {
+    let expected = [0x14, value];
+    are(said, &expected)
 }
 
 // Whether a status is this octet and then the parameter that was sent; 0 means no status.
@@ -175,8 +186,7 @@ pub(crate) fn start(b: Bench) -> Bench {
     let said = reply.status;
     print_sent(&START);
     print_answer(response, said);
-    let octets = response.octets;
-    let responds = check::same(first(&octets, response.count as usize), &STARTED);
+    let responds = are(response, &STARTED);
     let written = reply.console;
     let confirmed = written.confirm(0).console;
     Bench {
@@ -193,9 +203,7 @@ pub(crate) fn feed(b: Bench, speed: u16, value: u8) -> Bench {
     print_number(b" flywheel ", speed as u64);
     print(b" status");
     print_counted(said);
-    let octets = said.octets;
-    let expected = [0x14, value];
-    let tells = check::same(first(&octets, said.count as usize), &expected);
+    let tells = is_spin_down(said, value);
     Bench {
         console: reply.console,
         expected: b.expected && tells,
