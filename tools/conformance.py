@@ -1,9 +1,11 @@
 #!/usr/bin/env python3
-"""Writes what the program `conformance` must print, from document 01 and source document 003 alone: tools/conformance.py > crates/conformance/stdout
+"""Writes what the program `conformance` must print, from documents 01 and 02 and source document 003 alone:
+
+    python3 tools/conformance.py > crates/conformance/stdout
 
 Every server test case has its line, in the order of source document 003, with what was read, notified or sent, and the verdict: `pass` if the
 outcome is the one that the test suite expects, `departs` if document 01 has another or asks for one more step, `outside` if what is tested lies
-outside document 01.
+outside documents 01 and 02.
 """
 import sys
 
@@ -166,10 +168,10 @@ def kind_cases(kind):
 
 
 # "01 gives 01; 07 gives 04; 08 gives 02 and its parameter; 02 to 06 give op code plus 3, 09 to 12 op code plus 1, 14 gives 15, each with the
-# parameter. 00 gives none."
+# parameter. 00 gives none." Of 13: "a start or an ignore gives none".
 def status(sent):
     op = sent[0]
-    if op == 0x00:
+    if op in (0x00, 0x13):
         return b""
     first = {0x01: 0x01, 0x07: 0x04, 0x08: 0x02, 0x14: 0x15}.get(op)
     if first is None:
@@ -177,12 +179,38 @@ def status(sent):
     return bytes([first]) + sent[1:]
 
 
+# The target speeds of the machine under test, low and high.
+SPEEDS = (1000, 2000)
+
+
+def response(sent, result):
+    """"Response: 80, op code, result."; "A successful start answers 80 13 01 followed by a low and a high target speed, u16 each" """
+    started = sent == octets("1301") and result == 1
+    return bytes([0x80, sent[0], result]) + b"".join(speed.to_bytes(2, "little") for speed in SPEEDS if started)
+
+
+def feed(speed, warned):
+    """"The status is 14 with 2 success or 4 stop pedalling": a speed in a run that has said 4 or not yet, what it says, and whether 4 has been said."""
+    low, high = SPEEDS
+    value = 2 if speed <= low else 4 if speed <= high and not warned else None
+    return " flywheel %d status" % speed + spelled([0x14, value] if value else []), warned or value == 4
+
+
+def spin_down(*speeds):
+    """A start, and the speeds that are fed in its run."""
+    text, warned = exchange("1301", 1), False
+    for speed in speeds:
+        said, warned = feed(speed, warned)
+        text += said
+    return text
+
+
 def exchange(text, result):
     sent = octets(text)
     if result == 20:
         return " sent" + spelled(sent) + " refused 20"
     said = status(sent) if result == 1 else b""
-    return " sent" + spelled(sent) + " response" + spelled([0x80, sent[0], result]) + " status" + spelled(said)
+    return " sent" + spelled(sent) + " response" + spelled(response(sent, result)) + " status" + spelled(said)
 
 
 def case(name, *exchanges, verdict="pass"):
@@ -197,11 +225,13 @@ def status_cases():
         ("01", "01"), ("02", "0801"), ("03", "0802"), ("04", "no call is the safety key"), ("05", "07"), ("06", "028813"), ("07", "030A00"),
         ("08", "0432"), ("25", "043200"), ("09", "056400"), ("10", "0687"), ("11", "09F401"), ("12", "0AD007"), ("13", "0BD007"),
         ("14", "0C881300"), ("15", "0D100E"), ("16", "0E08070807"), ("17", "0FF40158020807"), ("18", "105802B004B00458022C01"),
-        ("19", "111027F4010164"), ("20", "12C800"), ("21", "spin down"), ("22", "14C800"), ("23", "no call revokes control"),
+        ("19", "111027F4010164"), ("20", "12C800"), ("21", "flywheel"), ("22", "14C800"), ("23", "no call revokes control"),
         ("24", "radio: to whom a status is sent"),
     ]:
         if " " in sent:
             outside(sent, "FMSN", [int(number)])
+        elif sent == "flywheel":  # "Any value from 0x01 to 0x04": 4 at the high target speed, 2 at the low one
+            line("FMSN/BV-%s-C" % number + spin_down(2000, 1000), "pass")
         elif sent == "043200":
             case("FMSN/BV-%s-C" % number, (sent, 3), verdict=ONE_OCTET_LEVEL)
         else:
@@ -211,10 +241,11 @@ def status_cases():
 def procedure_cases():
     for number, sent in enumerate([
         "00", "01", "02E803", "03FBFF", "043200", "05C800", "0678", "07", "0801", "0802", "092C01", "0A1027", "0BE803", "0C701101", "0D0807",
-        "0E2C015802", "0F2C0158028403", "103C007800B400F0002C01", "1118FC2C012833", "123A52", "1301", "14B400",
+        "0E2C015802", "0F2C0158028403", "103C007800B400F0002C01", "1118FC2C012833", "123A52", "1301 1302", "14B400",
     ], 1):
-        result, verdict = {5: (3, ONE_OCTET_LEVEL), 21: (2, departs("spin down is not supported"))}.get(number, (1, "pass"))
-        case("CW/BV-%02d-C" % number, (sent, result), verdict=verdict)
+        # 21 has "0x01 or 0x02": both are written.
+        result, verdict = {5: (3, ONE_OCTET_LEVEL)}.get(number, (1, "pass"))
+        case("CW/BV-%02d-C" % number, *((each, result) for each in sent.split()), verdict=verdict)
 
 
 def error_cases():

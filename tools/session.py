@@ -12,14 +12,14 @@ from conformance import status
 from tables import OP_CODES, RANGES, parameter, target_bit, words
 from vectors import OCTETS, hexed, spelled
 
-# The target settings of the treadmill: "0 speed, 1 inclination, .. 3 power". Its ranges: "least, greatest, both allowed".
+# The target settings of the treadmill: "0 speed, 1 inclination, .. 3 power"; no spin down, which is 15. Its ranges: "least, greatest, both allowed".
 TARGETS = {0, 1, 3}
 # Its features: "0 average speed, .. 2 distance, 3 inclination, .. 12 elapsed, .. 15 belt force and power output"
 FEATURES = {0, 2, 3, 12, 15}
 ALLOWED = {"speed": (100, 2000), "inclination": (-30, 150), "resistance": (0, 0), "power": (0, 500), "heart rate": (0, 0)}
 
-# The widths of each op code's parameter. Of spin down document 01 says: "its op code is answered "not supported"".
-PARAMETERS = {op: parameter(name) for op, name in enumerate(words(OP_CODES, ";")) if op != 0x13}
+# The widths of each op code's parameter.
+PARAMETERS = {op: parameter(name) for op, name in enumerate(words(OP_CODES, ";"))}
 
 ON = "turns indications on"
 

@@ -1,5 +1,5 @@
 #!/usr/bin/env python3
-"""Prints what crates/fttables must print: the reference's tables, from document 01's words and tables alone.
+"""Prints what crates/fttables must print: the reference's tables, from document 01's words and tables and W-201 of document 02 alone.
 
     python3 tools/tables.py > crates/fttables/stdout
 """
@@ -18,10 +18,11 @@ metabolic equivalent, elapsed, remaining, power, belt force and power output, us
 TARGETS = """speed, inclination, resistance, power, heart rate, energy, steps, strides, distance, training time, time in two heart rate zones,
 time in three heart rate zones, time in five heart rate zones, bike simulation, wheel circumference, spin down, cadence"""
 
-# "Op codes and parameters", from 00 on, with spin down at 13, which that list leaves out.
+# "Op codes and parameters", from 00 on, with spin down at 13: "parameter 1 starts, 2 ignores".
 OP_CODES = """request control; reset; speed u16; inclination s16; resistance u8; power s16; heart rate u8; start or resume;
 stop (1) or pause (2) u8; energy u16; steps u16; strides u16; distance u24; time u16; two zones, a u16 each; three zones, a u16 each;
-five zones, a u16 each; wind s16, grade s16, rolling u8, drag u8; wheel u16; spin down; cadence u16"""
+five zones, a u16 each; wind s16, grade s16, rolling u8, drag u8; wheel u16;
+spin down: start (1) or ignore (2) u8; cadence u16"""
 
 # "Ranges .. exist for speed u16, inclination s16, resistance s16, power s16, heart rate u8."
 RANGES = {0x02: "speed", 0x03: "inclination", 0x04: "resistance", 0x05: "power", 0x06: "heart rate"}
@@ -33,7 +34,8 @@ REFUSALS = [
     (13, "record not well formed"),
     (14, "lent output shorter than this answer"),
     (15, "part number not below the number of parts"),
-    (16, "some range has least above greatest"),
+    # "16 also when the low target is not below the high one"
+    (16, "some range has least above greatest, or the low target speed is not below the high one"),
     (17, "client not connected; for connect, already connected"),
     (18, "write of no octets"),
     (19, "indications off (ATT FD)"),
@@ -88,18 +90,18 @@ LEAVES = {
     "reading a Feature value": "nothing: the call has no state",
     "opening a collection": "a collection that holds nothing, not to be used",
     "collecting a notification": "11: the collection as it was; 30 to 34: nothing held",
-    "opening a machine": "a console with no target setting and every range 0, not to be used",
+    "opening a machine": "a console with no target setting, every range 0 and both target speeds 0, not to be used",
     "connect": CONSOLE, "disconnect": CONSOLE, "indications": CONSOLE, "write": CONSOLE, "confirm": CONSOLE,
     "listing a capture": "the lent octets as they were",
     "a line of a listing": "36, 11 and 37: the listing ends; 30 to 32: nothing held, and the listing goes on",
 }
 
-# "A write is judged in this order: ..", after the refusals
+# "A write is judged in this order: ..", after the refusals; "result 03 for neither 1 nor 2, 04 for a start during a run"
 RESULTS = [
     ("02", "the op code is not supported"),
     ("05", "the client does not hold control (but for 00)"),
-    ("03", "wrong length, a value outside its range, or 08 with neither 1 nor 2"),
-    ("04", "00 finds another holder, 07 finds running, 08 with 1 finds stopped, or 08 with 2 finds anything but running"),
+    ("03", "wrong length, a value outside its range, or 08 or 13 with neither 1 nor 2"),
+    ("04", "00 finds another holder, 07 finds running, 08 with 1 finds stopped, 08 with 2 finds anything but running, or 13 with 1 finds a run"),
     ("01", "otherwise: success"),
 ]
 
@@ -122,24 +124,22 @@ def bare(name):
 
 
 def target_bit(op):
-    """"00, 01, 07, 08 are always supported; 02 to 06 need target bits 0 to 4, 09 to 12 need 5 to 14, 14 needs 16." """
+    """"00, 01, 07, 08 are always supported; 02 to 06 need target bits 0 to 4, 09 to 12 need 5 to 14, 14 needs 16."; "13 becomes supported with target bit 15" """
     if op in (0x00, 0x01, 0x07, 0x08):
         return "always supported"
-    return {0x14: 16}.get(op, op - 2 if op <= 0x06 else op - 4)
+    return {0x13: 15, 0x14: 16}.get(op, op - 2 if op <= 0x06 else op - 4)
 
 
 def status(op, octets):
-    """"01 gives 01; 07 gives 04; 08 gives 02 and its parameter; 02 to 06 give op code plus 3, 09 to 12 op code plus 1, 14 gives 15 .. 00 gives none." """
-    if op == 0x00:
+    """"01 gives 01; 07 gives 04; 08 gives 02 and its parameter; 02 to 06 give op code plus 3, 09 to 12 op code plus 1, 14 gives 15 .. 00 gives none."; "a start or an ignore gives none" """
+    if op in (0x00, 0x13):
         return "none"
     first = {0x01: 0x01, 0x07: 0x04, 0x08: 0x02, 0x14: 0x15}.get(op, op + 3 if op <= 0x06 else op + 1)
     return "%02X" % first + (" and the parameter" if octets else "")
 
 
 def op_code(op, name):
-    """The cells after an op code's name. Of spin down's, document 01 says only that it "is answered "not supported"": "result 02"."""
-    if op == 0x13:
-        return "-", "-", "-", "not supported: 80 13 02", "-"
+    """The cells after an op code's name."""
     widths = parameter(name)
     octets = sum(OCTETS[width] for width in widths)
     return ", ".join(widths) or "none", octets, RANGES.get(op, "none"), target_bit(op), status(op, octets)
@@ -173,20 +173,23 @@ def calls():
 # "07 sets running, 08 stopped (1) or paused (2)"; 01 "stops"
 WRITES = {"07": "running", "08 01": "stopped", "08 02": "paused", "01": "stopped"}
 
+# "A successful start answers 80 13 01 followed by a low and a high target speed"; "Reset, .. or an ignore ends a run"
 SUCCESSES = [
     ("00", "gives the client control"),
-    ("01", "zeroes every setting, stops the machine and frees control"),
+    ("01", "zeroes every setting, stops the machine, frees control and ends a run"),
     ("07", "sets the machine running"),
     ("08 01", "stops the machine"),
     ("08 02", "pauses the machine"),
     ("02 to 06, 09 to 12, 14", "stores the parameter octets as the setting"),
+    ("13 01", "starts a run; the target speeds follow the result in the response"),
+    ("13 02", "ends a run"),
 ]
 
-# Source document 000, table 4.15; the zones, tables 4.17 to 4.19; 11, table 4.20
+# Source document 000, table 4.15; the zones, tables 4.17 to 4.19; 11, table 4.20; the response to 13, table 4.22
 UNITS = """02 speed, kilometers per hour, 0.01; 03 inclination, percent, 0.1; 04 resistance, none, 0.1; 05 power, watts, 1;
 06 heart rate, beats per minute, 1; 09 energy, Calories, 1; 0A steps, steps, 1; 0B strides, strides, 1; 0C distance, meters, 1; 0D time, seconds, 1;
 0E/0F/10 each zone, seconds, ; 11 wind, meters per second, 0.001; 11 grade, percent, 0.01; 11 rolling, none, 0.0001; 11 drag, kilograms per meter, 0.01;
-12 wheel, millimeters, 0.1; 14 cadence, 1/minute, 0.5"""
+12 wheel, millimeters, 0.1; 13 target speeds in the response, kilometers per hour, 0.01; 14 cadence, 1/minute, 0.5"""
 
 WIDTHS = {0x02: "u16", 0x03: "s16", 0x04: "s16", 0x05: "s16", 0x06: "u8"}
 

@@ -12,9 +12,21 @@ use service::control::ranges::HeartRateRange;
 use service::control::ranges::Ranges;
 use service::control::ranges::SignedRange;
 use service::control::ranges::SpeedRange;
+use service::control::spin_down::TargetSpeeds;
 
 // Every named bit of the features and of the target settings.
 const FEATURE: [u8; 8] = [0xFF, 0xFF, 0x01, 0x00, 0xFF, 0xFF, 0x01, 0x00];
+
+// The target speeds: 10 and 20 km/h.
+const SPEEDS: TargetSpeeds = TargetSpeeds {
+    low: 1000,
+    high: 2000,
+};
+
+// A start of spin down, and the response to it: "80 13 01 followed by a low and a high target speed, u16 each".
+const START: [u8; 2] = [0x13, 0x01];
+
+const STARTED: [u8; 7] = [0x80, 0x13, 0x01, 0xE8, 0x03, 0xD0, 0x07];
 
 // A test case that is being run: the console, and whether each answer so far was the one expected.
 pub(crate) struct Bench {
@@ -50,7 +62,7 @@ fn ranges() -> Ranges {
 
 // A console that is opened, its client connected with indications on.
 pub(crate) fn ready() -> Console {
-    let opened = Console::open(&FEATURE, ranges()).console;
+    let opened = Console::open(&FEATURE, ranges(), SPEEDS).console;
     let connected = opened.connect(0).console;
     connected.indicate(0, true).console
 }
@@ -111,10 +123,21 @@ fn print_answer(response: Counted, status: Counted) {
     print_counted(status);
 }
 
+// Whether these are the octets expected, and no more.
+fn are(counted: Counted, expected: &[u8]) -> bool {
+    let octets = counted.octets;
+    check::same(first(&octets, counted.count as usize), expected)
+}
+
 fn is_response(response: Counted, sent: &[u8], result: u8) -> bool {
-    let octets = response.octets;
     let expected = [0x80, u8_at(sent, 0), result];
-    check::same(first(&octets, response.count as usize), &expected)
+    are(response, &expected)
+}
+
+// Whether a status is 14 and this value.
+fn is_spin_down(said: Counted, value: u8) -> bool {
+    let expected = [0x14, value];
+    are(said, &expected)
 }
 
 // Whether a status is this octet and then the parameter that was sent; 0 means no status.
@@ -152,6 +175,38 @@ pub(crate) fn exchange(b: Bench, sent: &[u8], result: u8, status: u8) -> Bench {
     Bench {
         console: confirmed,
         expected: answered.expected,
+    }
+}
+
+// Starts a run of spin down, compares the response with the one that has the target speeds, and confirms it; "a start or an ignore gives none".
+pub(crate) fn start(b: Bench) -> Bench {
+    let console = b.console;
+    let reply = console.write(0, &START);
+    let response = reply.response;
+    let said = reply.status;
+    print_sent(&START);
+    print_answer(response, said);
+    let responds = are(response, &STARTED);
+    let written = reply.console;
+    let confirmed = written.confirm(0).console;
+    Bench {
+        console: confirmed,
+        expected: b.expected && responds && said.count == 0,
+    }
+}
+
+// Feeds a flywheel speed, prints the status, and compares it with 14 and this value.
+pub(crate) fn feed(b: Bench, speed: u16, value: u8) -> Bench {
+    let console = b.console;
+    let reply = console.flywheel(speed);
+    let said = reply.status;
+    print_number(b" flywheel ", speed as u64);
+    print(b" status");
+    print_counted(said);
+    let tells = is_spin_down(said, value);
+    Bench {
+        console: reply.console,
+        expected: b.expected && tells,
     }
 }
 
@@ -193,7 +248,7 @@ pub(crate) fn finish(b: Bench, verdict: &[u8]) {
 
 // The Feature value of a machine that was opened with these octets.
 fn feature_of(octets: &[u8]) -> Feature {
-    let opened = Console::open(octets, ranges()).console;
+    let opened = Console::open(octets, ranges(), SPEEDS).console;
     let machine = opened.machine;
     let setup = machine.setup;
     setup.feature

@@ -1,5 +1,5 @@
-// The test cases of what document 01 leaves outside: "radio, pairing, timers, Training Status, the User Data Service, and spin down", and of
-// what none of its calls does.
+// The test cases of what document 01 leaves outside, "radio, pairing, timers, Training Status, the User Data Service", and of what none of its
+// calls does. Spin down, which it leaves outside too, is in document 02.
 use output::print;
 
 // Section 4.3.

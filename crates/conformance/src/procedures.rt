@@ -1,9 +1,13 @@
 // Section 4.9: the procedures of the control point, which succeed for a client that has requested control.
+use crate::bench::begin;
 use crate::bench::depart;
+use crate::bench::exchange;
+use crate::bench::finish;
 use crate::bench::holding;
 use crate::bench::ready;
 use crate::bench::run;
 use crate::bench::running;
+use crate::bench::start;
 
 // A write by a client that holds control, to a machine that is stopped.
 fn grant(number: u8, sent: &[u8], status: u8) {
@@ -46,15 +50,12 @@ fn run_arrays() {
     grant(20, b"\x12\x3A\x52", 0x13);
 }
 
-// Spin down lies outside: its op code is not supported, whatever the Feature value says.
+// Spin down, with "0x01 or 0x02": a start, and then an ignore.
 fn run_spin_down() {
-    depart(
-        b"CW/BV-",
-        21,
-        b"\x13\x01",
-        0x02,
-        b"departs (spin down is not supported)",
-    );
+    let b = begin(b"CW/BV-", 21, b"", holding());
+    let b = start(b);
+    let b = exchange(b, b"\x13\x02", 0x01, 0);
+    finish(b, b"pass");
 }
 
 pub(crate) fn run_all() {

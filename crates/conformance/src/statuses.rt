@@ -1,9 +1,13 @@
-// Section 4.8: the status octets, each caused by a write.
+// Section 4.8: the status octets, each caused by a write, and those of spin down by flywheel speeds.
+use crate::bench::begin;
 use crate::bench::depart;
+use crate::bench::feed;
+use crate::bench::finish;
 use crate::bench::holding;
 use crate::bench::paused;
 use crate::bench::run;
 use crate::bench::running;
+use crate::bench::start;
 use output::print;
 
 // A write by a client that holds control, to a machine that is stopped.
@@ -50,9 +54,17 @@ fn run_arrays() {
     grant(20, b"\x12\xC8\x00", 0x13);
 }
 
-// Statuses 14 and FF do not occur.
+// "Any value from 0x01 to 0x04": 4 at the high target speed, and 2 at the low one.
+fn run_spin_down() {
+    let b = begin(b"FMSN/BV-", 21, b"", holding());
+    let b = start(b);
+    let b = feed(b, 2000, 0x04);
+    let b = feed(b, 1000, 0x02);
+    finish(b, b"pass");
+}
+
+// Status FF does not occur.
 fn run_last() {
-    print(b"FTMS/SR/FMSN/BV-21-C: outside (spin down)\n");
     grant(22, b"\x14\xC8\x00", 0x15);
     print(
         b"FTMS/SR/FMSN/BV-23-C: outside (no call revokes control)
@@ -66,5 +78,6 @@ pub(crate) fn run_all() {
     run_targets();
     run_session();
     run_arrays();
+    run_spin_down();
     run_last();
 }

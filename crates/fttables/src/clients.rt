@@ -8,6 +8,13 @@ use service::control::ranges::HeartRateRange;
 use service::control::ranges::Ranges;
 use service::control::ranges::SignedRange;
 use service::control::ranges::SpeedRange;
+use service::control::spin_down::TargetSpeeds;
+
+// The target speeds of each machine that is opened here: 10 and 20 km/h.
+const SPEEDS: TargetSpeeds = TargetSpeeds {
+    low: 1000,
+    high: 2000,
+};
 
 // The number of a refusal; 0 if there is none.
 fn number_of(outcome: Outcome) -> u8 {
@@ -44,14 +51,14 @@ fn ranges(least: u8) -> Ranges {
 pub(crate) fn opening(step: u8) -> u8 {
     let octets = [0u8; 8];
     let feature = first(&octets, mended(step, 1, 7, 8) as usize);
-    let outcome = Console::open(feature, ranges(mended(step, 2, 1, 0))).outcome;
+    let outcome = Console::open(feature, ranges(mended(step, 2, 1, 0)), SPEEDS).outcome;
     number_of(outcome)
 }
 
 // A console with a response due to client 0; client 1 is connected with indications off, and no other is connected.
 fn awaiting() -> Console {
     let octets = [0u8; 8];
-    let opened = Console::open(&octets, ranges(0)).console;
+    let opened = Console::open(&octets, ranges(0), SPEEDS).console;
     let connected = opened.connect(0).console;
     let indicated = connected.indicate(0, true).console;
     let written = indicated.write(0, b"\x00").console;

@@ -6,7 +6,6 @@ use crate::words::put_comma;
 use crate::words::put_open;
 use crate::words::put_word;
 use reference::words::put_width;
-use service::control::judging::WriteResult;
 use service::control::op_codes::Bound;
 use service::control::op_codes::Lookup;
 use service::control::op_codes::Need;
@@ -28,7 +27,7 @@ fn put_name(out: &mut [u8], at: usize, op: u8) -> usize {
     put_word(
         out,
         at,
-        b"request control\nreset\nspeed\ninclination\nresistance\npower\nheart rate\nstart or resume\nstop (1) or pause (2)\nenergy\nsteps\nstrides\ndistance\ntime\ntwo zones\nthree zones\nfive zones\nwind, grade, rolling, drag\nwheel\nspin down\ncadence\n",
+        b"request control\nreset\nspeed\ninclination\nresistance\npower\nheart rate\nstart or resume\nstop (1) or pause (2)\nenergy\nsteps\nstrides\ndistance\ntime\ntwo zones\nthree zones\nfive zones\nwind, grade, rolling, drag\nwheel\nspin down: start (1) or ignore (2)\ncadence\n",
         op,
     )
 }
@@ -119,20 +118,11 @@ fn put_known(out: &mut [u8], at: usize, code: OpCode) -> usize {
     put_status(out, b, status)
 }
 
-// The cells of an op code that the table does not have: dashes, and the only response that it gets.
-fn put_unknown(out: &mut [u8], at: usize, op: u8) -> usize {
-    let result = WriteResult::NotSupported;
-    let a = put_bytes(out, at, b"- | - | - | not supported: 80 ");
-    let b = put_hex(out, a, op);
-    let c = put_bytes(out, b, b" ");
-    let d = put_hex(out, c, result.number());
-    put_bytes(out, d, b" | -")
-}
-
+// The cells after the name of an op code; the table has every op code up to the last, so that no row has dashes.
 fn put_cells(out: &mut [u8], at: usize, op: u8) -> usize {
     match op_code(op) {
         Lookup::Known(code) => put_known(out, at, code),
-        Lookup::Unknown => put_unknown(out, at, op),
+        Lookup::Unknown => put_bytes(out, at, b"- | - | - | - | -"),
     }
 }
 
@@ -171,7 +161,7 @@ fn put_result(out: &mut [u8], at: usize, which: u8) -> usize {
     let d = put_word(
         out,
         c,
-        b"the op code is not supported\nthe client does not hold control (but for 00)\nwrong length, a value outside its range, or 08 with neither 1 nor 2\n00 finds another holder, 07 finds running, 08 with 1 finds stopped, or 08 with 2 finds anything but running\notherwise: success\n",
+        b"the op code is not supported\nthe client does not hold control (but for 00)\nwrong length, a value outside its range, or 08 or 13 with neither 1 nor 2\n00 finds another holder, 07 finds running, 08 with 1 finds stopped, 08 with 2 finds anything but running, or 13 with 1 finds a run\notherwise: success\n",
         which,
     );
     put_close(out, d)

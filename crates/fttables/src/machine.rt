@@ -98,17 +98,20 @@ fn print_states() {
 }
 
 // "Success: 00 gives control; 01 zeroes every setting, stops and frees control; 07 sets running, 08 stopped (1) or paused (2); .. store the parameter octets."
+// Of document 02: "parameter 1 starts, 2 ignores".
 fn print_successes() {
     print(b"\n## Successes\n\n| write | what its success does |\n|---|---|\n");
     print(b"| 00 | gives the client control |\n");
-    print(b"| 01 | zeroes every setting, stops the machine and frees control |\n");
+    print(b"| 01 | zeroes every setting, stops the machine, frees control and ends a run |\n");
     print(b"| 07 | sets the machine running |\n");
     print(b"| 08 01 | stops the machine |\n");
     print(b"| 08 02 | pauses the machine |\n");
     print(b"| 02 to 06, 09 to 12, 14 | stores the parameter octets as the setting |\n");
+    print(b"| 13 01 | starts a run; the target speeds follow the result in the response |\n");
+    print(b"| 13 02 | ends a run |\n");
 }
 
-// The units of the parameters, as source document 000 gives them in tables 4.15 and 4.17 to 4.20.
+// The units of the parameters, as source document 000 gives them in tables 4.15, 4.17 to 4.20 and 4.22.
 fn print_units() {
     print(b"\n## Units\n\n| op code | parameter | unit | resolution |\n|---|---|---|---|\n");
     print(b"| 02 | speed | kilometers per hour | 0.01 |\n");
@@ -127,6 +130,7 @@ fn print_units() {
     print(b"| 11 | rolling | none | 0.0001 |\n");
     print(b"| 11 | drag | kilograms per meter | 0.01 |\n");
     print(b"| 12 | wheel | millimeters | 0.1 |\n");
+    print(b"| 13 | target speeds in the response | kilometers per hour | 0.01 |\n");
     print(b"| 14 | cadence | 1/minute | 0.5 |\n");
 }
 

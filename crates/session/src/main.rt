@@ -19,6 +19,7 @@ use service::control::ranges::HeartRateRange;
 use service::control::ranges::Ranges;
 use service::control::ranges::SignedRange;
 use service::control::ranges::SpeedRange;
+use service::control::spin_down::TargetSpeeds;
 
 // What this treadmill sends, and what can be set on it: no resistance and no heart rate.
 const FEATURE: Feature = Feature {
@@ -54,6 +55,12 @@ const RANGES: Ranges = Ranges {
         least: 0,
         greatest: 0,
     },
+};
+
+// The target speeds of a spin down, which this treadmill does not support: 10 and 20 km/h.
+const SPEEDS: TargetSpeeds = TargetSpeeds {
+    low: 1000,
+    high: 2000,
 };
 
 // What the clients write: an op code and its parameter, least octet first.
@@ -137,7 +144,7 @@ fn main() {
     print(b"Feature value:");
     print_octets(&octets);
     print(b"\n");
-    let reply = Console::open(&octets, RANGES);
+    let reply = Console::open(&octets, RANGES, SPEEDS);
     let outcome = reply.outcome;
     match outcome {
         Outcome::Done => {

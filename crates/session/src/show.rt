@@ -25,7 +25,8 @@ pub(crate) fn write(console: Console, client: u8, octets: &[u8]) -> Console {
     let outcome = reply.outcome;
     match outcome {
         Outcome::Done => {
-            // 80, the op code and the result: the client has to confirm it
+            // 80, the op code, the result, and after a start of spin down the target speeds: the
+            // client has to confirm it
             send(b": response", reply.response);
             // none unless the write succeeded
             send(b", status", reply.status);
