@@ -107,7 +107,9 @@ fn print_write(console: Console, client: u8, octets: &[u8], place: &[u8]) {
 }
 
 fn print_writes() {
-    print(b"\n## Writes\n\n| write | where | response | status | after it |\n|---|---|---|---|---|\n");
+    print(
+        b"\n## Writes\n\n| write | where | response | status | after it |\n|---|---|---|---|---|\n",
+    );
     print_write(ready(false), 0, &START, b" | target bit 15 is 0 |");
     print_write(
         ready(true),
@@ -122,12 +124,7 @@ fn print_writes() {
         &NEITHER,
         b" | the parameter is neither 1 nor 2 |",
     );
-    print_write(
-        ready(true),
-        0,
-        &START,
-        b" | there is no run: it starts |",
-    );
+    print_write(ready(true), 0, &START, b" | there is no run: it starts |");
     print_write(in_run(Run::Quiet), 0, &START, b" | there is a run |");
     print_write(
         in_run(Run::Quiet),
@@ -140,7 +137,8 @@ fn print_writes() {
 
 // The calls that the runs are put to, one line each.
 enum Call {
-    Write([u8; 2]),
+    Start,
+    Ignore,
     Reset,
     Disconnect(u8),
     Flywheel(u16),
@@ -148,40 +146,50 @@ enum Call {
 
 fn made(console: Console, call: Call) -> Reply {
     match call {
-        Call::Write(octets) => console.write(0, &octets),
+        Call::Start => console.write(0, &START),
+        Call::Ignore => console.write(0, &IGNORE),
         Call::Reset => console.write(0, &RESET),
         Call::Disconnect(client) => console.disconnect(client),
         Call::Flywheel(speed) => console.flywheel(speed),
     }
 }
 
-// Whether a reply has a response with another result than success.
-fn has_failed(reply: Reply) -> bool {
-    let response = reply.response;
+// Whether octets are a response with another result than success.
+fn has_failed(response: Counted) -> bool {
     let octets = response.octets;
     response.count != 0 && octets[2] != SUCCESS
 }
 
-// The cell of a call in a run: its result if that is not success, otherwise its status, if it has one, and the run after it.
-fn print_cell(run: Run, call: Call) {
-    let reply = made(in_run(run), call);
-    let response = reply.response.octets;
-    let status = reply.status;
-    let machine = reply.console.machine;
-    let run_after = machine.run;
-    if has_failed(reply) {
-        print(b" result");
-        print_octets(&[response[2]]);
-        print(b" |");
+fn print_result(response: Counted) {
+    let octets = response.octets;
+    let result = [octets[2]];
+    print(b" result");
+    print_octets(&result);
+    print(b" |");
+}
+
+// A status and a colon; nothing if there is none.
+fn print_status(status: Counted) {
+    if status.count == 0 {
         return;
     }
-    if status.count != 0 {
-        let octets = status.octets;
-        print(b" status");
-        print_octets(first(&octets, status.count as usize));
-        print(b":");
+    let octets = status.octets;
+    print(b" status");
+    print_octets(first(&octets, status.count as usize));
+    print(b":");
+}
+
+// The cell of a call in a run: its result if that is not success, otherwise its status and the run after it.
+fn print_cell(run: Run, call: Call) {
+    let reply = made(in_run(run), call);
+    let machine = reply.console.machine;
+    let left = machine.run;
+    if has_failed(reply.response) {
+        print_result(reply.response);
+    } else {
+        print_status(reply.status);
+        print_run(left);
     }
-    print_run(run_after);
 }
 
 // The line of a call.
@@ -197,8 +205,8 @@ fn print_runs() {
     print(
         b"\n## Runs\n\n| call | no run | a run that has said nothing | a run that has said 4 |\n|---|---|---|---|\n",
     );
-    print_line(b"| write 13 01 |", Call::Write(START));
-    print_line(b"| write 13 02 |", Call::Write(IGNORE));
+    print_line(b"| write 13 01 |", Call::Start);
+    print_line(b"| write 13 02 |", Call::Ignore);
     print_line(b"| write 01 |", Call::Reset);
     print_line(b"| the holder disconnects |", Call::Disconnect(0));
     print_line(b"| another client disconnects |", Call::Disconnect(1));
