@@ -10,6 +10,7 @@ sys.dont_write_bytecode = True
 from header import header
 from kinds import all_kinds, page, splitting, widths
 from markdown import table
+from runs import tables as spin_down
 from vectors import KINDS, OCTETS
 
 FEATURES = """average speed, cadence, distance, inclination, elevation gain, pace, step count, resistance, stride count, energy, heart rate,
@@ -236,6 +237,7 @@ if __name__ == "__main__":
         page(each)
     calls()
     machine()
+    spin_down()
     all_kinds(words(FEATURES, ","))
     widths()
     splitting()

@@ -19,6 +19,7 @@ PROGRAMS = {
     "ftlist": "lists a capture",
     "roundtrip": "splits and collects records",
     "session": "two clients, one console",
+    "spindown": "a crew calibrates a bike",
     "fttables": "prints the tables",
     "vectors": "worked cases of records",
     "conformance": "the server test cases",
@@ -30,7 +31,7 @@ HOST = ("host/", "C header, example, tests", ["phone", "ftlist", "replay"])
 
 GAP = 4
 BRICK = 47
-ACROSS = 4
+ACROSS = 3
 BETWEEN = 8
 
 

@@ -56,6 +56,14 @@ class Maker:
             raise Fault(f"fttables prints no table {name}")
         return self.tables[name].splitlines()
 
+    def row(self, name, first):
+        """The heading of a table, and its row that begins with a cell."""
+        lines = self.table(name)
+        found = [line for line in lines[2:] if line.startswith(f"| {first} |")]
+        if len(found) != 1:
+            raise Fault(f"the table {name} has {len(found)} rows of {first}")
+        return lines[:2] + found
+
     def expand(self, page, what, words):
         """The lines that a directive stands for."""
         words = words.replace("@_", page.replace("-", "_")).replace("@", page)
@@ -63,6 +71,8 @@ class Maker:
             return ["# " + "".join(self.table(words + "/title"))]
         if what == "table":
             return self.table(words)
+        if what == "row":
+            return self.row(*words.split(" ", 1))
         if what == "picture":
             return self.pictures.draw(words.split())
         if what == "code":

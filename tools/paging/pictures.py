@@ -84,6 +84,14 @@ class Pictures:
             raise Fault("session does not begin with the Feature value")
         return title, drawing.sequence_pictures(title, lines[1:], 900)
 
+    def coast(self):
+        title = "A run through both targets"
+        return title, drawing.coast_picture(title, section("crates/spindown/stdout", "a run through both targets").splitlines())
+
+    def runs(self):
+        title = "The states of a run, and the calls that change them"
+        return title, drawing.runs_picture(title, self.rows("spin-down/runs"))
+
     def name(self, what, arguments):
         """`treadmill-flags` of a kind, `lost-open` of others."""
         if arguments and arguments[0] + "/flags" in self.tables:

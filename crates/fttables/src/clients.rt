@@ -25,7 +25,7 @@ fn number_of(outcome: Outcome) -> u8 {
 }
 
 // Ranges from 0 to 0, except for the least speed, which may be above the greatest.
-fn ranges(least: u8) -> Ranges {
+pub(crate) fn ranges(least: u8) -> Ranges {
     let speed = SpeedRange {
         least: least as u16,
         greatest: 0,
