@@ -88,14 +88,14 @@ module _ {S : Type 0} (p : Point S) where
 
   -- one that says 4 twice in a run, after any opening and any calls
   pub not-4-twice : (o : Opening) (k : Console) → opened o ≡ given k → (x : S) → p .opening o ≡ given x → (qs : List Call) →
-      spoken (run p x [] qs .0) ≡ 4 ∷ 4 ∷ [] → Answers p → ⊥
+      spoken (run p x [] qs .0) ≡ 0x14 ∷ 4 ∷ 0x14 ∷ 4 ∷ [] → Answers p → ⊥
   not-4-twice o k e x h qs t a = from (spoken (run p x [] qs .0)) t (one-of-four p a o k e x h qs)
     where
-      from : (s : List ℕ) → s ≡ 4 ∷ 4 ∷ [] → OneOfFour s → ⊥
-      from s t nothing = let z : _≡_ {A = ℕ} 0 2 = ap length t in omega arith
-      from s t four = let z : _≡_ {A = ℕ} 1 2 = ap length t in omega arith
-      from s t two = let z : _≡_ {A = ℕ} 1 2 = ap length t in omega arith
-      from s t four-then-two = let z : _≡_ {A = ℕ} 2 4 = ap (λ (l : List ℕ). getD l 1 0) t in omega arith
+      from : (s : List ℕ) → s ≡ 0x14 ∷ 4 ∷ 0x14 ∷ 4 ∷ [] → OneOfFour s → ⊥
+      from s t nothing = let z : _≡_ {A = ℕ} 0 4 = ap length t in omega arith
+      from s t four = let z : _≡_ {A = ℕ} 2 4 = ap length t in omega arith
+      from s t two = let z : _≡_ {A = ℕ} 2 4 = ap length t in omega arith
+      from s t four-then-two = let z : _≡_ {A = ℕ} 2 4 = ap (λ (l : List ℕ). getD l 3 0) t in omega arith
 
 -- ---- such control points
 
@@ -122,7 +122,7 @@ warns-again-refuted = not-4-twice warns-again (able fair) able-console able-open
 pub warns-again-unlawful : SaysByRun warns-again → ⊥
 unfolding spoken led-by holder-by run connects indicates confirms writes feeds op-code fit judged number has spelled
 warns-again-unlawful h =
-    let e : _≡_ {A = ℕ} 2 1 = ap length (h (able fair) able-console able-opens two-below) in
+    let e : _≡_ {A = ℕ} 4 2 = ap length (h (able fair) able-console able-opens two-below) in
     omega arith
 
 -- a run outlives the holder's disconnect

@@ -38,9 +38,8 @@ use Rattle.service.proofs.ControlLaws.Rule.{table-rule}
 use Rattle.service.proofs.ControlLaws.Fits.{Granted, allowed-fit}
 use Rattle.service.proofs.ControlLaws.Answers.{setup-of}
 use Rattle.demands.specs.Control.Point.{Call, connect, disconnect, confirm, indicate, write, flywheel, service, Event, event, step, run}
-use Rattle.demands.specs.Control.Laws.{Present, Sound, ends, any, holder-by, is-disconnect}
-use Rattle.demands.specs.Control.History.{accepted}
-use Rattle.demands.specs.Control.Runs.{started, lost, ended, Led, at-most, feeding, next-led, led-by, run-of, said-by, first-above, words, value-in, spoken, RunByHistory, SaysByRun, OneOfFour, nothing, four, two, four-then-two}
+use Rattle.demands.specs.Control.Laws.{Present, Sound, by, ends, any, holder-by, is-disconnect}
+use Rattle.demands.specs.Control.Runs.{started, lost, ended, Led, at-most, feeding, next-led, led-by, run-of, said-by, first-above, words, said-in, spoken, RunByHistory, SaysByRun, OneOfFour, nothing, four, two, four-then-two}
 use Rattle.demands.proofs.ControlLaws.Numbers.{Number, number-so, not-01}
 use Rattle.demands.proofs.ControlLaws.Steps.{responding, Stepped, refusal, connected, gone, indicated, confirmed, denied, granted, fed, steps}
 use Rattle.demands.proofs.ControlLaws.Kept.{opened-first, sound-first, sound-step}
@@ -64,16 +63,23 @@ unsaid Silent = true
 unsaid (Octet x) = not (eqb x 0x14)
 unsaid (Echo x) = not (eqb x 0x14)
 
-no-value : (s : Status) (p : List ℕ) → unsaid s ≡ true → value-in (status-octets s p) ≡ []
-no-value Silent p h = refl
-no-value (Octet x) p h = rw (not-so (eqb x 0x14) h)
-no-value (Echo x) p h = rw (not-so (eqb x 0x14) h)
+none-said : (c : ℕ) (w r : List ℕ) (s : Status) (p : List ℕ) → unsaid s ≡ true → said-in (event (write c w) (sent r (status-octets s p))) ≡ []
+none-said c w r Silent p h = refl
+none-said c w r (Octet x) p h = rw (not-so (eqb x 0x14) h)
+none-said c w r (Echo x) p h = rw (not-so (eqb x 0x14) h)
+
+-- a call that is refused says nothing
+refused-says : (q : Call) (n : ℕ) → said-in (event q (refused n)) ≡ []
+refused-says q n = elim (tested (someone (by q))) [
+  | passed e ↦ rw e
+  | failed e ↦ rw e
+]
 
 -- ---- one event
 
 -- what has been said after one more event
 abbrev next-spoken : Event → List ℕ → List ℕ
-next-spoken e before = cond (started e) [] (before ++ value-in (status-of (e .answer)))
+next-spoken e before = cond (started e) [] before ++ said-in e
 
 -- a console, the last run and what has been said belong together
 record Follows (t : TargetSpeeds) (r : Led) (said : List ℕ) (k : Console) : Type 0 where
@@ -107,15 +113,15 @@ module _ (k : Console) (r : Led) (said : List ℕ) (f : Follows (k .machine .set
   After e = Follows t (next-led t (k .machine .holder) e r) (next-spoken e said)
 
   -- an event that neither starts a run nor ends it nor feeds it leaves it; a run that goes on keeps its holder
-  keep : (e : Event) → started e ≡ false → ended (k .machine .holder) e ≡ false → cond (accepted e) (feeding t (e .call) r) r ≡ r →
-      value-in (status-of (e .answer)) ≡ [] → (n : Console) → n .machine .run ≡ k .machine .run →
+  keep : (e : Event) → started e ≡ false → ended (k .machine .holder) e ≡ false → feeding t (e .call) r ≡ r →
+      said-in e ≡ [] → (n : Console) → n .machine .run ≡ k .machine .run →
       (r .on ≡ true → n .machine .holder ≡ k .machine .holder) → After e n
   keep e s d a v n i h =
       rw (s, d, a, v, append-nil said)
       (record { run-so = i ∙ f .run-so; held = λ o. h o ∙ f .held o; above = f .above; said-so = f .said-so })
 
   -- an event that ends a run
-  over : (e : Event) → started e ≡ false → ended (k .machine .holder) e ≡ true → value-in (status-of (e .answer)) ≡ [] →
+  over : (e : Event) → started e ≡ false → ended (k .machine .holder) e ≡ true → said-in e ≡ [] →
       (n : Console) → n .machine .run ≡ Off → After e n
   over e s d v n i =
       rw (s, d, v, append-nil said)
@@ -140,20 +146,21 @@ module _ (k : Console) (r : Led) (said : List ℕ) (f : Follows (k .machine .set
         run-so = ap (λ x. run-at t x v) (f .run-so) ∙ fed-run t r v;
         held = λ o. f .held (fed-held t r v o .0) ∙ fed-held t r v o .1;
         above = fed-above t r v (f .above);
-        said-so = (λ i. f .said-so i ++ value-in (said-at t (f .run-so i) v)) ∙ fed-words t r v (f .above);
+        said-so = (λ i. f .said-so i ++ said-at t (f .run-so i) v) ∙ fed-words t r v (f .above);
       })
 
 -- ---- one call
 
 module _ (k : Console) (z : Sound k) (r : Led) (said : List ℕ) (f : Follows (k .machine .setup .speeds) r said k) where
   module _ (c o : ℕ) (p : List ℕ) (x : OpCode) (i : op-code o ≡ Known x) (g : Granted (k .machine) c x p) where
-    abbrev success-event : Event
-    success-event =
-        event (write c (o ∷ p))
-        (sent (response-octets o Success ++ followed-by (k .machine .setup .speeds) (x .act) (number 1 p)) (status-octets (x .status) p))
+    abbrev success-response : List ℕ
+    success-response = response-octets o Success ++ followed-by (k .machine .setup .speeds) (x .act) (number 1 p)
 
-    silent : value-in (status-octets (x .status) p) ≡ []
-    silent = no-value (x .status) p (table-rule (λ o x. unsaid (x .status)) refl o x i)
+    abbrev success-event : Event
+    success-event = event (write c (o ∷ p)) (sent success-response (status-octets (x .status) p))
+
+    silent : said-in success-event ≡ []
+    silent = none-said c (o ∷ p) success-response (x .status) p (table-rule (λ o x. unsaid (x .status)) refl o x i)
 
     -- an op code that is not 01 or 13
     unled : (o ≡ 1 → ⊥) → not (eqb o 0x13) ≡ true → (n : Console) → n .machine .run ≡ k .machine .run →
@@ -179,7 +186,8 @@ module _ (k : Console) (z : Sound k) (r : Led) (said : List ℕ) (f : Follows (k
         let b : x .bound ≡ OneOrTwo = bound-so (x .bound) (and-r (eqb o 0x13) (one-or-two (x .bound)) s) in
         let l : (leb 1 (number 1 p) && leb (number 1 p) 2) ≡ true = rw b at (allowed-fit (k .machine .setup .ranges) x p (g .suits)) in
         elim (tested (eqb (number 1 p) 1)) [
-          | passed y ↦ rw (h, y) (record { run-so = refl; held = λ o. is-client (k .machine .holder) c w; above = λ o. refl; said-so = refl })
+          | passed y ↦
+              rw (h, y, silent) (record { run-so = refl; held = λ o. is-client (k .machine .holder) c w; above = λ o. refl; said-so = refl })
           | failed y ↦
               over k r said f success-event (rw (h, y)) (rw (h, eqb-true (two l (eqb-ne (number 1 p) 1 y)))) silent _ (rw y)
         ]
@@ -199,21 +207,32 @@ module _ (k : Console) (z : Sound k) (r : Led) (said : List ℕ) (f : Follows (k
         keep k r said f (event (disconnect c) (sent [] [])) refl (lost-other (k .machine .holder) c y) refl refl l (i ∙ rw y) (λ o. h ∙ rw y)
   ]
 
-  run-stepped : {q : Call} {x : Answer Sent × Console} → Stepped k q x → After k r said f (event q (x .0)) (x .1)
-  run-stepped {q} (refusal n l g) =
+  -- a call that feeds no speed
+  run-stepped : {q : Call} {x : Answer Sent × Console} → feeding (k .machine .setup .speeds) q r ≡ r → Stepped k q x →
+      After k r said f (event q (x .0)) (x .1)
+  run-stepped {q} u (refusal n l g) =
       keep k r said f (event q (refused n)) refl
       (lost-none (k .machine .holder) (event q (refused n)) (λ d. rw (eqb-false (λ (e : n ≡ 0). omega arith), and-no (is-disconnect q))))
-      (rw (eqb-false (λ (e : n ≡ 0). omega arith))) refl k refl (λ o. refl)
-  run-stepped {q} (connected c h e) = keep k r said f (event q (sent [] [])) refl (lost-none (k .machine .holder) _ (λ d. refl)) refl refl _ refl (λ o. refl)
-  run-stepped (gone c h e) = gone-so c _ refl refl
-  run-stepped {q} (indicated c b h e) = keep k r said f (event q (sent [] [])) refl (lost-none (k .machine .holder) _ (λ d. refl)) refl refl _ refl (λ o. refl)
-  run-stepped {q} (confirmed c h e g) = keep k r said f (event q (sent [] [])) refl (lost-none (k .machine .holder) _ (λ d. refl)) refl refl _ refl (λ o. refl)
-  run-stepped {q} (denied c o p h w e) =
+      u (refused-says q n) k refl (λ o. refl)
+  run-stepped {q} u (connected c h e) = keep k r said f (event q (sent [] [])) refl (lost-none (k .machine .holder) _ (λ d. refl)) refl refl _ refl (λ o. refl)
+  run-stepped u (gone c h e) = gone-so c _ refl refl
+  run-stepped {q} u (indicated c b h e) = keep k r said f (event q (sent [] [])) refl (lost-none (k .machine .holder) _ (λ d. refl)) refl refl _ refl (λ o. refl)
+  run-stepped {q} u (confirmed c h e g) = keep k r said f (event q (sent [] [])) refl (lost-none (k .machine .holder) _ (λ d. refl)) refl refl _ refl (λ o. refl)
+  run-stepped {q} u (denied c o p h w e) =
       keep k r said f (event q (sent (response-octets o w) [])) (rw (not-01 w e))
       (rw (not-01 w e) (lost-none (k .machine .holder) (event q (sent (response-octets o w) [])) (λ d. rw (not-01 w e)))) refl refl _ refl (λ o. refl)
-  run-stepped (granted c o p h x e g) =
+  run-stepped u (granted c o p h x e g) =
       run-done c o p x e g (x .act) refl (number-so o x e) (table-rule (λ o x. leads o (x .bound) (x .act)) refl o x e) (g .controlled) (g .right)
-  run-stepped (fed v) = feeds-so k r said f v
+  run-stepped u (fed v) = feeds-so k r said f v
+
+  run-called : (q : Call) → After k r said f (event q (step k q .0)) (step k q .1)
+  unfolding feeds
+  run-called (connect c) = run-stepped refl (steps k (connect c))
+  run-called (disconnect c) = run-stepped refl (steps k (disconnect c))
+  run-called (confirm c) = run-stepped refl (steps k (confirm c))
+  run-called (indicate c b) = run-stepped refl (steps k (indicate c b))
+  run-called (write c s) = run-stepped refl (steps k (write c s))
+  run-called (flywheel v) = feeds-so k r said f v
 
 -- ---- sequences of calls
 
@@ -228,7 +247,7 @@ ran-more k z past q h f =
     let e : Event = event q (step k q .0) in
     subst (λ (t : TargetSpeeds). Follows t (led-by t (e ∷ past)) (spoken (e ∷ past)) (step k q .1)) (sym (ap (λ s. s .speeds) (fixed-at-opening k q)))
     (subst (λ (w : Who). Follows (k .machine .setup .speeds) (next-led (k .machine .setup .speeds) w e (led-by (k .machine .setup .speeds) past)) (spoken (e ∷ past)) (step k q .1)) h
-    (run-stepped k z (led-by (k .machine .setup .speeds) past) (spoken past) f (steps k q)))
+    (run-called k z (led-by (k .machine .setup .speeds) past) (spoken past) f q))
 
 ran : (k : Console) → Sound k → (past : List Event) (qs : List Call) → k .machine .holder ≡ holder-by past [] → Ran past k →
     Ran (run service k past qs .0) (run service k past qs .1)

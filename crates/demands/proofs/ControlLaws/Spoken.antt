@@ -2,7 +2,7 @@
 use Prim.Native.Nat.{ℕ}
 use mathlib.Core.Path.{_≡_, refl, sym, ap, _∙_}
 use mathlib.Core.Bool.{Bool, true, false, cond, not, _&&_, _||_, true≢false}
-use mathlib.Core.List.{List, [], _∷_, _++_}
+use mathlib.Core.List.{List, [], _∷_, _++_, append-nil}
 use lib.Dec.{eqb, leb}
 use Rattle.record.proofs.Tests.{passed, failed, tested}
 use Rattle.service.specs.declared.control.machine.Who.{Who}
@@ -12,7 +12,7 @@ use Rattle.service.specs.declared.control.spin_down.Run.the-variants.{Off, Quie
 use Rattle.service.specs.Control.SpinDown.{on, success-said, stop-said, said-at, run-at}
 use Rattle.demands.specs.Control.Point.{flywheel}
 use Rattle.demands.specs.Control.Laws.{any}
-use Rattle.demands.specs.Control.Runs.{Led, at-most, feeding, run-of, said-by, first-above, words, value-in}
+use Rattle.demands.specs.Control.Runs.{Led, at-most, feeding, run-of, said-by, first-above, words}
 
 -- ---- truth values
 
@@ -92,8 +92,8 @@ module _ (t : TargetSpeeds) where
   -- ---- one more speed
 
   spoken-bits : (a l h : Bool) →
-      (cond a (4 ∷ []) [] ++ []) ++ value-in (cond l success-said (cond (h && not a) stop-said [])) ≡
-      cond (cond a a (h && not l)) (4 ∷ []) [] ++ cond l (2 ∷ []) []
+      (cond a stop-said [] ++ []) ++ cond l success-said (cond (h && not a) stop-said []) ≡
+      cond (cond a a (h && not l)) stop-said [] ++ cond l success-said []
   spoken-bits true true true = refl
   spoken-bits true true false = refl
   spoken-bits true false true = refl
@@ -104,7 +104,7 @@ module _ (t : TargetSpeeds) where
   spoken-bits false false false = refl
 
   words-more : (vs : List ℕ) (v : ℕ) → any (at-most (t .low)) vs ≡ false →
-      words t vs ++ value-in (said-at t (led (any (at-most (t .high)) vs)) v) ≡ words t (vs ++ v ∷ [])
+      words t vs ++ said-at t (led (any (at-most (t .high)) vs)) v ≡ words t (vs ++ v ∷ [])
   words-more vs v h =
       let a : Bool = any (at-most (t .high)) vs in
       rw (led-says t v a, first-more vs v, any-more (at-most (t .low)) vs v, h, first-any vs h) (spoken-bits a (at-most (t .low) v) (at-most (t .high) v))
@@ -142,15 +142,11 @@ module _ (t : TargetSpeeds) where
   fed-held r v = on-before (r .on) (r .starter) (r .speeds) v
 
   pub fed-words : (r : Led) (v : ℕ) → (r .on ≡ true → any (at-most (t .low)) (r .speeds) ≡ false) →
-      words t (r .speeds) ++ value-in (said-at t (run-of t r) v) ≡ words t (feeding t (flywheel v) r .speeds)
+      words t (r .speeds) ++ said-at t (run-of t r) v ≡ words t (feeding t (flywheel v) r .speeds)
   fed-words r v h = elim (tested (r .on)) [
-    | failed e ↦ rw e (nothing-more (words t (r .speeds)))
+    | failed e ↦ rw e (append-nil (words t (r .speeds)))
     | passed e ↦ rw e (words-more (r .speeds) v (h e))
   ]
-    where
-      nothing-more : (s : List ℕ) → s ++ [] ≡ s
-      nothing-more [] = refl
-      nothing-more (x ∷ s) = ap (λ (l : List ℕ). x ∷ l) (nothing-more s)
 
   -- what is said at one more speed, from the last run
   pub said-so : (r : Led) (v : ℕ) → said-at t (run-of t r) v ≡ said-by t r v
