@@ -16,7 +16,7 @@ use Rattle.demands.specs.Control.Worked.Callers.{callers}
 use Rattle.demands.specs.Control.Worked.Courses.{courses, each-setting}
 use Rattle.demands.specs.Control.Worked.Needs.{needs}
 use Rattle.demands.specs.Control.Worked.Orders.{orders}
-use Rattle.demands.specs.Control.Worked.Coasting.{ends-or-not, coasting}
+use Rattle.demands.specs.Control.Worked.Coasting.{endings, coasting}
 
 pub modes-hold : map (found each) modes ≡ map told modes
 unfolding spelled number has op-code fit judged setting opened connects disconnects indicates confirms writes run
@@ -54,6 +54,6 @@ pub coasting-holds : map (found in-turn) coasting ≡ map told coasting
 unfolding spelled number has op-code fit judged setting opened connects disconnects indicates confirms writes feeds run
 coasting-holds = refl
 
-pub ends-or-not-holds : found each ends-or-not ≡ told ends-or-not
+pub endings-hold : map (found each) endings ≡ map told endings
 unfolding spelled number has op-code fit judged setting opened connects disconnects indicates confirms writes feeds run
-ends-or-not-holds = refl
+endings-hold = refl
