@@ -281,16 +281,13 @@ says-by-run o k e qs = ran-after o k e qs .said-so
 
 -- ---- what one run says is nothing, 4, 2, or 4 then 2
 pub words-four : (t : TargetSpeeds) (vs : List ℕ) → OneOfFour (words t vs)
-words-four t vs = elim (tested (first-above t vs)) [
-  | passed e ↦ elim (tested (any (at-most (t .low)) vs)) [
-    | passed f ↦ rw (e, f) four-then-two
-    | failed f ↦ rw (e, f) four
-  ]
-  | failed e ↦ elim (tested (any (at-most (t .low)) vs)) [
-    | passed f ↦ rw (e, f) two
-    | failed f ↦ rw (e, f) nothing
-  ]
-]
+words-four t vs = of (first-above t vs) (any (at-most (t .low)) vs)
+  where
+    of : (a b : Bool) → OneOfFour (cond a stop-said [] ++ cond b success-said [])
+    of true true = four-then-two
+    of true false = four
+    of false true = two
+    of false false = nothing
 
 -- ---- outside a run a speed says nothing and changes nothing
 pub outside-run : (k : Console) (v : ℕ) → on (k .machine .run) ≡ false → step k (flywheel v) ≡ accepts k
@@ -316,16 +313,13 @@ run-connected k s h = from (k .machine .holder) refl (s .run-held h) (s .links .
 -- ---- nothing is said after 2 until a new start
 
 two-said : (t : TargetSpeeds) (vs : List ℕ) → any (eqb 2) (words t vs) ≡ any (at-most (t .low)) vs
-two-said t vs = elim (tested (first-above t vs)) [
-  | passed e ↦ elim (tested (any (at-most (t .low)) vs)) [
-    | passed f ↦ rw (e, f)
-    | failed f ↦ rw (e, f)
-  ]
-  | failed e ↦ elim (tested (any (at-most (t .low)) vs)) [
-    | passed f ↦ rw (e, f)
-    | failed f ↦ rw (e, f)
-  ]
-]
+two-said t vs = of (first-above t vs) (any (at-most (t .low)) vs)
+  where
+    of : (a b : Bool) → any (eqb 2) (cond a stop-said [] ++ cond b success-said []) ≡ b
+    of true true = refl
+    of true false = refl
+    of false true = refl
+    of false false = refl
 
 pub nothing-after-2 : (o : Opening) (k : Console) → opened o ≡ given k → (qs : List Call) → any (eqb 2) (spoken (run service k [] qs .0)) ≡ true →
     (v : ℕ) → step (run service k [] qs .1) (flywheel v) ≡ accepts (run service k [] qs .1)
