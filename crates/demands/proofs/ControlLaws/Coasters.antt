@@ -1,6 +1,6 @@
 -- Control points that are wrong about spin down: each breaks demand 2's predicate, whatever else it does, or the law of a run.
 use Prim.Native.Nat.{ℕ, _≤_}
-use mathlib.Core.Path.{_≡_, refl, sym, ap, _∙_}
+use mathlib.Core.Path.{_≡_, refl, sym, ap, subst, _∙_}
 use mathlib.Core.Bool.{Bool, true, false, cond, _&&_, true≢false}
 use mathlib.Core.List.{List, [], _∷_, _++_}
 use native.Mathlib.Omega.{arith}
@@ -32,8 +32,9 @@ use Rattle.demands.specs.Control.Cases.{speeds, ready, holds, asks}
 use Rattle.demands.specs.Control.Worked.Ends.{able}
 use Rattle.demands.specs.Control.Worked.Openings.{fair, coasting}
 use Rattle.demands.specs.Control.Worked.Coasting.{starts}
+use Rattle.demands.proofs.ControlLaws.Runs.{words-four}
 use Rattle.demands.proofs.ControlLaws.Answered.{run-more}
-use Rattle.demands.proofs.ControlLaws.Demanded.{answers-told, answers-say, one-of-four, gone-says-nothing}
+use Rattle.demands.proofs.ControlLaws.Demanded.{answers-told, answers-say, gone-says-nothing}
 use Rattle.demands.proofs.ControlLaws.Meets.{plain-console}
 use Rattle.demands.proofs.ControlLaws.Liars.{altered, retold, of-write, able-console, able-opens}
 
@@ -74,9 +75,14 @@ module _ {S : Type 0} (p : Point S) where
       let l : length (response-of (p .calling (g .0) (write 0 (0x13 ∷ 1 ∷ [])) .0)) ≤ 3 = h (g .0) (write 0 (0x13 ∷ 1 ∷ [])) in
       omega arith
 
+  -- what is said in one run, and after it, is nothing, 4, 2, or 4 then 2
+  pub one-of-four : Answers p → (o : Opening) (x : S) → p .opening o ≡ given x → (qs : List Call) → OneOfFour (spoken (run p x [] qs .0))
+  one-of-four a o x h qs =
+      subst OneOfFour (sym (answers-say p a o x h qs)) (words-four (o .speeds) (led-by (o .speeds) (run p x [] qs .0) .speeds))
+
   -- one that says 4 twice in a run, after any opening and any calls
   pub not-4-twice : (o : Opening) (x : S) → p .opening o ≡ given x → (qs : List Call) → spoken (run p x [] qs .0) ≡ 0x14 ∷ 4 ∷ 0x14 ∷ 4 ∷ [] → Answers p → ⊥
-  not-4-twice o x h qs t a = from (spoken (run p x [] qs .0)) t (one-of-four p (answers-say p a) o x h qs)
+  not-4-twice o x h qs t a = from (spoken (run p x [] qs .0)) t (one-of-four a o x h qs)
     where
       from : (s : List ℕ) → s ≡ 0x14 ∷ 4 ∷ 0x14 ∷ 4 ∷ [] → OneOfFour s → ⊥
       from s t nothing = let z : _≡_ {A = ℕ} 0 4 = ap length t in omega arith
@@ -109,10 +115,13 @@ forgetful Warned = Quiet
 abbrev pub warns-again : Point Console
 warns-again = altered (λ q before after. with-run after (forgetful (after .machine .run)))
 
-pub warns-again-refuted : SaysByRun warns-again → ⊥
+pub warns-again-unlawful : SaysByRun warns-again → ⊥
 unfolding spoken led-by holder-by run connects indicates confirms writes feeds op-code fit judged number has spelled
-warns-again-refuted h =
+warns-again-unlawful h =
     let e : _≡_ {A = ℕ} 4 2 = ap length (h (able fair) able-console able-opens (starts ++ flywheel 2000 ∷ flywheel 1999 ∷ [])) in omega arith
+
+pub warns-again-refuted : Answers warns-again → ⊥
+warns-again-refuted a = warns-again-unlawful (answers-say warns-again a)
 
 -- the run after a disconnect, and after a write of an op code that a test picks
 abbrev after-leaving : (Run → Run) → Call → Console → Console → Console
@@ -206,9 +215,9 @@ start = write 0 (0x13 ∷ 1 ∷ [])
 abbrev pub says-requested : Point Console
 says-requested = retold (start-told (λ a. sent (response-of a) (0x14 ∷ 1 ∷ [])))
 
-pub says-requested-refuted : SaysByRun says-requested → ⊥
+pub says-requested-unlawful : SaysByRun says-requested → ⊥
 unfolding spoken led-by holder-by run connects indicates confirms writes op-code fit judged number has spelled
-says-requested-refuted h = let e : _≡_ {A = ℕ} 2 0 = ap length (h (able fair) able-console able-opens (holds 0 ++ start ∷ [])) in omega arith
+says-requested-unlawful h = let e : _≡_ {A = ℕ} 2 0 = ap length (h (able fair) able-console able-opens (holds 0 ++ start ∷ [])) in omega arith
 
 -- a speed is refused while a response awaits confirmation
 abbrev busy : Console → Call → Answer Sent × Console → Answer Sent × Console
@@ -222,9 +231,9 @@ busy k (flywheel v) x = cond (someone (k .awaited)) (refuses k 20) x
 abbrev pub busy-for-speeds : Point Console
 busy-for-speeds = record { opening = opened; calling = λ k q. busy k q (step k q) }
 
-pub busy-for-speeds-refuted : SaysByRun busy-for-speeds → ⊥
+pub busy-for-speeds-unlawful : SaysByRun busy-for-speeds → ⊥
 unfolding spoken led-by holder-by run connects indicates confirms writes feeds op-code fit judged number has spelled
-busy-for-speeds-refuted h = let e : _≡_ {A = ℕ} 0 2 = ap length (h (able fair) able-console able-opens (holds 0 ++ start ∷ flywheel 1000 ∷ [])) in omega arith
+busy-for-speeds-unlawful h = let e : _≡_ {A = ℕ} 0 2 = ap length (h (able fair) able-console able-opens (holds 0 ++ start ∷ flywheel 1000 ∷ [])) in omega arith
 
 -- the high speed is before the low one
 abbrev pub high-first : Point Console

@@ -1,6 +1,6 @@
 -- What demand 2's predicate says of any control point: it answers by its history, and says in each run what the run's speeds say.
 use Prim.Native.Nat.{ℕ, suc}
-use mathlib.Core.Path.{_≡_, refl, sym, ap, subst, _∙_}
+use mathlib.Core.Path.{_≡_, refl, sym, ap, _∙_}
 use mathlib.Core.Bool.{true, false}
 use mathlib.Core.List.{List, [], _∷_, _++_}
 use native.Mathlib.Omega.{arith}
@@ -18,10 +18,10 @@ use Rattle.service.specs.Control.Calls.{Opening, opened}
 use Rattle.service.proofs.ControlLaws.Answers.{setup-of}
 use Rattle.demands.specs.Control.Point.{Call, disconnect, flywheel, Point, service, Event, event, latest, run, Answers}
 use Rattle.demands.specs.Control.Laws.{succeeded, holder-by}
-use Rattle.demands.specs.Control.Runs.{Led, next-led, led-by, words, spoken, SaysByRun, OneOfFour}
+use Rattle.demands.specs.Control.Runs.{Led, next-led, led-by, words, spoken, SaysByRun}
 use Rattle.demands.specs.Control.Answered.{answer-by, AnswersByHistory}
 use Rattle.demands.proofs.ControlLaws.History.{and-no}
-use Rattle.demands.proofs.ControlLaws.Runs.{says-by-run, words-four}
+use Rattle.demands.proofs.ControlLaws.Runs.{says-by-run}
 use Rattle.demands.proofs.ControlLaws.Answered.{answers-by-history, run-more}
 
 module _ {S : Type 0} (p : Point S) (a : Answers p) where
@@ -57,11 +57,6 @@ module _ {S : Type 0} (p : Point S) (a : Answers p) where
   answers-say o x h qs =
       let g : Alike o x = alike o x h in
       ap spoken (g .2 qs) ∙ says-by-run o (g .0) (g .1) qs ∙ ap (λ (l : List Event). words (o .speeds) (led-by (o .speeds) l .speeds)) (sym (g .2 qs))
-
--- what is said in one run, and after it, is nothing, 4, 2, or 4 then 2
-pub one-of-four : {S : Type 0} (p : Point S) → SaysByRun p → (o : Opening) (x : S) → p .opening o ≡ given x → (qs : List Call) →
-    OneOfFour (spoken (run p x [] qs .0))
-one-of-four p a o x h qs = subst OneOfFour (sym (a o x h qs)) (words-four (o .speeds) (led-by (o .speeds) (run p x [] qs .0) .speeds))
 
 -- ---- the holder's disconnect
 

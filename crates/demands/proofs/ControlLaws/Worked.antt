@@ -16,7 +16,7 @@ use Rattle.demands.specs.Control.Worked.Callers.{callers}
 use Rattle.demands.specs.Control.Worked.Courses.{courses, each-setting}
 use Rattle.demands.specs.Control.Worked.Needs.{needs}
 use Rattle.demands.specs.Control.Worked.Orders.{orders}
-use Rattle.demands.specs.Control.Worked.Coasting.{endings, coasting}
+use Rattle.demands.specs.Control.Worked.Coasting.{ends-or-not, coasting}
 
 pub modes-hold : map (found each) modes ≡ map told modes
 unfolding spelled number has op-code fit judged setting opened connects disconnects indicates confirms writes run
@@ -54,6 +54,6 @@ pub coasting-holds : map (found in-turn) coasting ≡ map told coasting
 unfolding spelled number has op-code fit judged setting opened connects disconnects indicates confirms writes feeds run
 coasting-holds = refl
 
-pub endings-hold : map (found each) endings ≡ map told endings
+pub ends-or-not-holds : map (found each) ends-or-not ≡ map told ends-or-not
 unfolding spelled number has op-code fit judged setting opened connects disconnects indicates confirms writes feeds run
-endings-hold = refl
+ends-or-not-holds = refl

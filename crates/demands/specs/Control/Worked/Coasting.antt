@@ -77,9 +77,10 @@ abbrev pub both : Mode → Run → Who → State
 both m r w = in-run r (state m (Client 0) w (0 ∷ 1 ∷ []) (0 ∷ 1 ∷ []) [])
 
 -- "Reset, disconnect of the holder or an ignore ends a run without a status of its own"; and what does not end it: a second start, a stop or pause of
--- the machine, and its start, which fails, a target, 00, another parameter of 13, indications, refusals, and another client's calls
-abbrev pub ends-or-not : Run → List Call → Answer Sent → Table
-ends-or-not r speeds a =
+-- the machine, and its start, which fails, a target, 00, any other parameter of 13, also where it would be 04 too, indications, refusals, and another
+-- client's calls
+abbrev pub lasting : Run → List Call → Answer Sent → Table
+lasting r speeds a =
     table (able fair) (holds 0 ++ asks 0 (0x07 ∷ []) ++ ready 1 ++ asks 0 (0x13 ∷ 1 ∷ []) ++ speeds) a (both Running r Nobody)
     (row (write 0 (0x01 ∷ [])) (sent (0x80 ∷ 0x01 ∷ 0x01 ∷ []) (0x01 ∷ []))
     (state Stopped Nobody (Client 0) (0 ∷ 1 ∷ []) (0 ∷ 1 ∷ []) []) ∷
@@ -87,6 +88,7 @@ ends-or-not r speeds a =
     row (write 0 (0x13 ∷ 2 ∷ [])) (sent (0x80 ∷ 0x13 ∷ 0x01 ∷ []) []) (both Running Off (Client 0)) ∷
     row (write 0 (0x13 ∷ 1 ∷ [])) (sent (0x80 ∷ 0x13 ∷ 0x04 ∷ []) []) (both Running r (Client 0)) ∷
     row (write 0 (0x13 ∷ 3 ∷ [])) (sent (0x80 ∷ 0x13 ∷ 0x03 ∷ []) []) (both Running r (Client 0)) ∷
+    row (write 0 (0x13 ∷ 1 ∷ 0 ∷ [])) (sent (0x80 ∷ 0x13 ∷ 0x03 ∷ []) []) (both Running r (Client 0)) ∷
     row (write 0 (0x08 ∷ 1 ∷ [])) (sent (0x80 ∷ 0x08 ∷ 0x01 ∷ []) (0x02 ∷ 1 ∷ [])) (both Stopped r (Client 0)) ∷
     row (write 0 (0x08 ∷ 2 ∷ [])) (sent (0x80 ∷ 0x08 ∷ 0x01 ∷ []) (0x02 ∷ 2 ∷ [])) (both Paused r (Client 0)) ∷
     row (write 0 (0x07 ∷ [])) (sent (0x80 ∷ 0x07 ∷ 0x04 ∷ []) []) (both Running r (Client 0)) ∷
@@ -96,13 +98,14 @@ ends-or-not r speeds a =
     row (indicate 0 false) (sent [] []) (in-run r (state Running (Client 0) Nobody (0 ∷ 1 ∷ []) (1 ∷ []) [])) ∷
     row (write 0 []) (refused 18) (both Running r Nobody) ∷
     row (disconnect 1) (sent [] []) (in-run r (state Running (Client 0) Nobody (0 ∷ []) (0 ∷ []) [])) ∷
+    row (write 1 (0x13 ∷ 1 ∷ [])) (sent (0x80 ∷ 0x13 ∷ 0x05 ∷ []) []) (both Running r (Client 1)) ∷
     row (write 1 (0x13 ∷ 2 ∷ [])) (sent (0x80 ∷ 0x13 ∷ 0x05 ∷ []) []) (both Running r (Client 1)) ∷
     row (write 1 (0x01 ∷ [])) (sent (0x80 ∷ 0x01 ∷ 0x05 ∷ []) []) (both Running r (Client 1)) ∷
     row (write 1 (0x00 ∷ [])) (sent (0x80 ∷ 0x00 ∷ 0x04 ∷ []) []) (both Running r (Client 1)) ∷
     row (disconnect 2) (refused 17) (both Running r Nobody) ∷ [])
 
-abbrev pub endings : List Table
-endings = ends-or-not Quiet [] (sent [] []) ∷ ends-or-not Warned (flywheel 2000 ∷ []) (sent [] (0x14 ∷ 4 ∷ [])) ∷ []
+abbrev pub ends-or-not : List Table
+ends-or-not = lasting Quiet [] (sent [] []) ∷ lasting Warned (flywheel 2000 ∷ []) (sent [] (0x14 ∷ 4 ∷ [])) ∷ []
 
 -- after the holder's disconnect nothing is said, also when it is back and holds control again
 abbrev pub left : Table
@@ -115,6 +118,6 @@ left =
     row (confirm 0) (sent [] []) (alone Off) ∷
     at 1000 [] Off ∷ [])
 
--- each row from the state that the row before it leads to; those of `endings`, each from the state above them
+-- each row from the state that the row before it leads to; those of `ends-or-not`, each from the state above them
 abbrev pub coasting : List Table
 coasting = falling ∷ at-once ∷ again ∷ left ∷ []
