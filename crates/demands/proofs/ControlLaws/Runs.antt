@@ -46,7 +46,7 @@ use Rattle.demands.proofs.ControlLaws.Kept.{opened-first, sound-first, 
 use Rattle.demands.proofs.ControlLaws.Changes.{is-client, fixed-at-opening, setup-after}
 use Rattle.demands.proofs.ControlLaws.History.{and-no, holder-more}
 use Rattle.demands.proofs.ControlLaws.Remembered.{one-or-two, bound-so, not-so}
-use Rattle.demands.proofs.ControlLaws.Spoken.{on-of, fed-run, fed-above, fed-held, fed-words}
+use Rattle.demands.proofs.ControlLaws.Spoken.{on-led, fed-run, fed-above, fed-held, fed-words}
 
 -- ---- the table: only 13 leads a run, with 1 or 2, and no status of an op code is 14
 
@@ -175,7 +175,7 @@ module _ (k : Console) (z : Sound k) (r : Led) (said : List ℕ) (f : Follows (k
         fails (k .machine) c a (number 1 p) ≡ false → After k r said f success-event (responding k (done (k .machine) c a p) c)
     run-done TakesControl e n s w q =
         unled (λ (y : o ≡ 1). omega arith) s _ refl
-        (λ b. had (k .machine .holder) c (z .run-held (ap on (f .run-so) ∙ on-of (r .on) (any (at-most (k .machine .setup .speeds .high)) (r .speeds)) ∙ b)) q)
+        (λ b. had (k .machine .holder) c (z .run-held (ap on (f .run-so) ∙ on-led (k .machine .setup .speeds) r ∙ b)) q)
     run-done Resets e n s w q =
         over k r said f success-event (rw n) (rw (n, is-client (k .machine .holder) c w) (eqb-same c)) silent _ refl
     run-done Starts e n s w q = unled (λ (y : o ≡ 1). omega arith) s _ refl (λ b. refl)
@@ -245,9 +245,9 @@ ran-more : (k : Console) → Sound k → (past : List Event) (q : Call) → k .m
 unfolding led-by spoken
 ran-more k z past q h f =
     let e : Event = event q (step k q .0) in
+    let s : TargetSpeeds = k .machine .setup .speeds in
     subst (λ (t : TargetSpeeds). Follows t (led-by t (e ∷ past)) (spoken (e ∷ past)) (step k q .1)) (sym (ap (λ s. s .speeds) (fixed-at-opening k q)))
-    (subst (λ (w : Who). Follows (k .machine .setup .speeds) (next-led (k .machine .setup .speeds) w e (led-by (k .machine .setup .speeds) past)) (spoken (e ∷ past)) (step k q .1)) h
-    (run-called k z (led-by (k .machine .setup .speeds) past) (spoken past) f q))
+    (subst (λ (w : Who). Follows s (next-led s w e (led-by s past)) (spoken (e ∷ past)) (step k q .1)) h (run-called k z (led-by s past) (spoken past) f q))
 
 ran : (k : Console) → Sound k → (past : List Event) (qs : List Call) → k .machine .holder ≡ holder-by past [] → Ran past k →
     Ran (run service k past qs .0) (run service k past qs .1)
@@ -304,11 +304,11 @@ outside-run k v h = from (k .machine .run) refl h
 
 -- ---- a run is there only while a connected client holds control
 pub run-connected : (k : Console) → Sound k → on (k .machine .run) ≡ true → (c : ℕ) × (k .machine .holder ≡ Client c) × (is-connected k c ≡ true)
-run-connected k s h = from (k .machine .holder) refl (s .run-held h) (s .links .holder-connected)
+run-connected k s h = from (k .machine .holder) (s .run-held h) (s .links .holder-connected)
   where
-    from : (w : Who) → k .machine .holder ≡ w → someone w ≡ true → Present (k .clients) w → (c : ℕ) × (k .machine .holder ≡ Client c) × (is-connected k c ≡ true)
-    from Nobody e f p = absurd (true≢false (sym f))
-    from (Client c) e f p = (c, e, p)
+    from : (w : Who) → someone w ≡ true → Present (k .clients) w → (c : ℕ) × (w ≡ Client c) × (is-connected k c ≡ true)
+    from Nobody f p = absurd (true≢false (sym f))
+    from (Client c) f p = (c, refl, p)
 
 -- ---- nothing is said after 2 until a new start
 
@@ -326,10 +326,9 @@ pub nothing-after-2 : (o : Opening) (k : Console) → opened o ≡ given k → (
 nothing-after-2 o k e qs h v =
     let r : Led = led-by (o .speeds) (run service k [] qs .0) in
     let f : Follows (o .speeds) r (spoken (run service k [] qs .0)) (run service k [] qs .1) = ran-after o k e qs in
-    outside-run (run service k [] qs .1) v (ap on (f .run-so) ∙ on-of (r .on) (any (at-most (o .speeds .high)) (r .speeds)) ∙ over-by r (f .above) (sym (two-said (o .speeds) (r .speeds)) ∙ ap (any (eqb 2)) (sym (f .said-so)) ∙ h))
+    let l : any (at-most (o .speeds .low)) (r .speeds) ≡ true = sym (two-said (o .speeds) (r .speeds)) ∙ ap (any (eqb 2)) (sym (f .said-so)) ∙ h in
+    outside-run (run service k [] qs .1) v (ap on (f .run-so) ∙ on-led (o .speeds) r ∙ over-by (r .on) (f .above) l)
   where
-    over-by : (r : Led) → (r .on ≡ true → any (at-most (o .speeds .low)) (r .speeds) ≡ false) → any (at-most (o .speeds .low)) (r .speeds) ≡ true → r .on ≡ false
-    over-by r a b = elim (tested (r .on)) [
-      | passed c ↦ absurd (true≢false (sym b ∙ a c))
-      | failed c ↦ c
-    ]
+    over-by : (z : Bool) {b : Bool} → (z ≡ true → b ≡ false) → b ≡ true → z ≡ false
+    over-by true a l = absurd (true≢false (sym l ∙ a refl))
+    over-by false a l = refl

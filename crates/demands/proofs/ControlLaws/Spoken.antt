@@ -24,10 +24,14 @@ or-no false = refl
 abbrev led : Bool → Run
 led a = cond a Warned Quiet
 
-pub on-of : (z a : Bool) → on (cond z (led a) Off) ≡ z
+on-of : (z a : Bool) → on (cond z (led a) Off) ≡ z
 on-of true true = refl
 on-of true false = refl
 on-of false a = refl
+
+-- there is a run if the last one is on
+pub on-led : (t : TargetSpeeds) (r : Led) → on (run-of t r) ≡ r .on
+on-led t r = on-of (r .on) (any (at-most (t .high)) (r .speeds))
 
 module _ (t : TargetSpeeds) (v : ℕ) where
   abbrev low : Bool
