@@ -1,7 +1,7 @@
 -- What demand 2's predicate says of any control point: it answers by its history, and says in each run what the run's speeds say.
 use Prim.Native.Nat.{ℕ, suc}
 use mathlib.Core.Path.{_≡_, refl, sym, ap, _∙_}
-use mathlib.Core.Bool.{true, false}
+use mathlib.Core.Bool.{false}
 use mathlib.Core.List.{List, [], _∷_, _++_}
 use native.Mathlib.Omega.{arith}
 use Rattle.record.specs.declared.feature.Feature.{Feature}
@@ -11,7 +11,7 @@ use Rattle.record.specs.Octets.{number}
 use Rattle.record.proofs.Tests.{passed, failed, tested, eqb-same}
 use Rattle.service.specs.declared.control.Console.{Console}
 use Rattle.service.specs.declared.control.machine.Who.{Who}
-use Rattle.service.specs.declared.control.machine.Who.the-variants.{Nobody, Client}
+use Rattle.service.specs.declared.control.machine.Who.the-variants.{Client}
 use Rattle.service.specs.declared.control.spin_down.TargetSpeeds.{TargetSpeeds}
 use Rattle.service.specs.Control.Replies.{Sent, sent, refusal-of}
 use Rattle.service.specs.Control.Calls.{Opening, opened}

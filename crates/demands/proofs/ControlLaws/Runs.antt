@@ -1,7 +1,7 @@
 -- A run of spin down after any sequence of calls is the one that the history says, and says what its speeds say.
 use Prim.Native.Nat.{ℕ, _≤_}
 use mathlib.Core.Path.{_≡_, refl, sym, ap, subst, _∙_}
-use mathlib.Core.Bool.{Bool, true, false, cond, not, _&&_, _||_, true≢false}
+use mathlib.Core.Bool.{Bool, true, false, cond, not, _&&_, true≢false}
 use mathlib.Core.List.{List, [], _∷_, _++_, append-nil}
 use native.Mathlib.Omega.{arith}
 use lib.Dec.{eqb, leb}
@@ -25,21 +25,20 @@ use Rattle.service.specs.declared.control.op_codes.Status.{Status}
 use Rattle.service.specs.declared.control.op_codes.Status.the-variants.{Silent, Octet, Echo}
 use Rattle.service.specs.declared.control.op_codes.Lookup.the-variants.{Known}
 use Rattle.service.specs.declared.control.judging.WriteResult.the-variants.{Success}
-use Rattle.service.specs.Control.Ranges.{allowed}
 use Rattle.service.specs.Control.OpCodes.{op-code}
 use Rattle.service.specs.Control.SpinDown.{on, followed-by, success-said, stop-said, said-at, run-at}
 use Rattle.service.specs.Control.Machine.{is, someone, without, spinning}
 use Rattle.service.specs.Control.Judging.{controls, fails}
 use Rattle.service.specs.Control.Effects.{response-octets, status-octets, done}
 use Rattle.service.specs.Control.Console.{is-connected, with-machine, first}
-use Rattle.service.specs.Control.Replies.{Sent, sent, status-of, responds, accepts}
+use Rattle.service.specs.Control.Replies.{Sent, sent, responds, accepts}
 use Rattle.service.specs.Control.Calls.{Opening, opened, feeds}
 use Rattle.service.proofs.ControlLaws.Rule.{table-rule}
 use Rattle.service.proofs.ControlLaws.Fits.{Granted, allowed-fit}
 use Rattle.service.proofs.ControlLaws.Answers.{setup-of}
 use Rattle.demands.specs.Control.Point.{Call, connect, disconnect, confirm, indicate, write, flywheel, service, Event, event, step, run}
 use Rattle.demands.specs.Control.Laws.{Present, Sound, by, ends, any, holder-by, is-disconnect}
-use Rattle.demands.specs.Control.Runs.{started, lost, ended, Led, at-most, feeding, next-led, led-by, run-of, said-by, first-above, words, said-in, spoken, RunByHistory, SaysByRun, OneOfFour, nothing, four, two, four-then-two}
+use Rattle.demands.specs.Control.Runs.{started, lost, ended, Led, at-most, feeding, next-led, led-by, run-of, first-above, words, said-in, spoken, RunByHistory, SaysByRun, OneOfFour, nothing, four, two, four-then-two}
 use Rattle.demands.proofs.ControlLaws.Numbers.{Number, number-so, not-01}
 use Rattle.demands.proofs.ControlLaws.Steps.{responding, Stepped, refusal, connected, gone, indicated, confirmed, denied, granted, fed, steps}
 use Rattle.demands.proofs.ControlLaws.Kept.{opened-first, sound-first, sound-step}

@@ -1,9 +1,8 @@
 -- What a run says over its speeds, when one more is fed.
 use Prim.Native.Nat.{ℕ}
-use mathlib.Core.Path.{_≡_, refl, sym, ap, _∙_}
+use mathlib.Core.Path.{_≡_, refl, sym}
 use mathlib.Core.Bool.{Bool, true, false, cond, not, _&&_, _||_, true≢false}
 use mathlib.Core.List.{List, [], _∷_, _++_, append-nil}
-use lib.Dec.{eqb, leb}
 use Rattle.record.proofs.Tests.{passed, failed, tested}
 use Rattle.service.specs.declared.control.machine.Who.{Who}
 use Rattle.service.specs.declared.control.spin_down.TargetSpeeds.{TargetSpeeds}

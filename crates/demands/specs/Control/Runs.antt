@@ -5,7 +5,7 @@ use mathlib.Core.Bool.{Bool, true, false, cond, not, _&&_, _||_}
 use mathlib.Core.List.{List, [], _∷_, _++_}
 use lib.Dec.{eqb, leb}
 use lib.ListN.{getD}
-use Rattle.record.specs.Answer.{Answer, given}
+use Rattle.record.specs.Answer.{given}
 use Rattle.record.specs.Octets.{number}
 use Rattle.service.specs.declared.control.Console.{Console}
 use Rattle.service.specs.declared.control.machine.Who.{Who}
@@ -14,7 +14,7 @@ use Rattle.service.specs.declared.control.spin_down.TargetSpeeds.{TargetSpeeds}
 use Rattle.service.specs.declared.control.spin_down.Run.{Run}
 use Rattle.service.specs.declared.control.spin_down.Run.the-variants.{Off, Quiet, Warned}
 use Rattle.service.specs.Control.Machine.{someone}
-use Rattle.service.specs.Control.Replies.{Sent, status-of}
+use Rattle.service.specs.Control.Replies.{status-of}
 use Rattle.service.specs.Control.Calls.{Opening}
 use Rattle.demands.specs.Control.Point.{Call, connect, disconnect, confirm, indicate, write, flywheel, Point, Event, run}
 use Rattle.demands.specs.Control.Laws.{by, parameter, succeeded, ends, any, holder-by}
