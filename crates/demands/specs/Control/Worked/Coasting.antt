@@ -72,13 +72,12 @@ again =
     at-due : ℕ → List ℕ → Run → Row
     at-due v s r = row (flywheel v) (sent [] s) (due r)
 
--- a run that has said nothing yet, or 4, of client 0, which holds control of a machine that runs; client 1 is connected too
+-- client 0 holds control of a machine in this mode, with this run; client 1 is connected too
 abbrev pub both : Mode → Run → Who → State
 both m r w = in-run r (state m (Client 0) w (0 ∷ 1 ∷ []) (0 ∷ 1 ∷ []) [])
 
--- "Reset, disconnect of the holder or an ignore ends a run without a status of its own"; and what does not end it: a second start, a stop or pause of
--- the machine, and its start, which fails, a target, 00, any other parameter of 13, also where it would be 04 too, indications, refusals, and another
--- client's calls
+-- "Reset, disconnect of the holder or an ignore ends a run without a status of its own"; and what does not end it: a second start, 13 with 3 or with two
+-- octets, a stop or pause of the machine, its start, which fails, a target, 00, indications, a refusal, and another client's calls
 abbrev pub lasting : Run → List Call → Answer Sent → Table
 lasting r speeds a =
     table (able fair) (holds 0 ++ asks 0 (0x07 ∷ []) ++ ready 1 ++ asks 0 (0x13 ∷ 1 ∷ []) ++ speeds) a (both Running r Nobody)
