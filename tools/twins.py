@@ -144,12 +144,13 @@ def reaching(copy, files):
 
 
 def noticing(copy, files):
-    """The first program, those with the fewest dependencies first, that reaches an edited file and does not print its `stdout`; or none."""
+    """The first program, those with the fewest dependencies first, that reaches an edited file and does not print its `stdout`; or none. A program may
+    need more steps than the interpreter allows: then the compiled ones count."""
     for name in sorted(reaching(copy, files), key=lambda name: len(copy.below[name])):
         said, status = copy.run("try", name)
         if status == 1 and "did not write what is expected" in said:
             return name
-        if status != 0:
+        if status != 0 and "need more steps than this run allows" not in said:
             sys.exit(f"strength: {name} does not run: " + said.strip().split("\n")[0])
     return "none"
 
