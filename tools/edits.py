@@ -212,17 +212,25 @@ def constant_sites(source):
     return found
 
 
+def asked_for(only, text):
+    """Whether a text has one of the words that are asked for, which have a comma between two; all are asked for where none is."""
+    return any(word in text for word in only.split(","))
+
+
 class Program:
-    def __init__(self, file, function, place, words):
+    def __init__(self, file, function, place, words, part):
         self.file, self.function, self.place, self.words = file, function, place, words
+        self.searched = f"{part}: {file} {function}"
         self.old = self.new = None
 
 
 def wrong_programs(path):
-    """The wrong programs of a file: a head `crate/file.rt function [in place]: words`, and below it `old ⇒ new`."""
-    found = []
+    """The wrong programs of a file: a head `crate/file.rt function [in place]: words`, and below it `old ⇒ new`; `## part` begins a part of the list."""
+    found, part = [], ""
     for line in open(path):
         line = line.strip()
+        if line.startswith("## "):
+            part = line[3:]
         if not line or line.startswith("#"):
             continue
         if "⇒" in line:
@@ -232,7 +240,7 @@ def wrong_programs(path):
         if not head:
             sys.exit(f"strength: not a head of a wrong program: {line}")
         crate, base, function, place, words = head.groups()
-        found.append(Program(f"{crate}/src/{base}", function, place, words))
+        found.append(Program(f"{crate}/src/{base}", function, place, words, part))
     return found
 
 

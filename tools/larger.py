@@ -6,7 +6,7 @@ local was computed from. A turn left out: a loop's first iteration, or its last.
 import random
 import time
 
-from edits import KEYWORDS, PRINTING, RELYING, body, closed, tokens_of
+from edits import KEYWORDS, PRINTING, RELYING, asked_for, body, closed, tokens_of
 from proving import short, told
 from reporting import row, write
 
@@ -165,7 +165,7 @@ def try_larger(copy, source, asked):
         draw.shuffle(sites)
         for site in sites:
             new = draw.choice(site.candidates)
-            if judged == EACH or asked.only not in rule:
+            if judged == EACH or not asked_for(asked.only, rule):
                 break
             began = time.time()
             verdict, where = judge(copy, site, new)

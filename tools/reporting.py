@@ -1,5 +1,7 @@
 """The files of docs/strength/: `tools/strength.py --report FILE` writes one whole, from the rows of its run."""
 
+import shlex
+
 # The options that say which edits are tried, in the order in which they are shown.
 OPTIONS = ["constants", "wrong", "larger", "twins", "run", "n", "seed", "skip", "only", "report"]
 
@@ -10,7 +12,7 @@ def command(asked, default):
     for name in OPTIONS:
         value = getattr(asked, name)
         if value != default(name):
-            words.append(("-" if len(name) == 1 else "--") + name + ("" if value is True else f" {value}"))
+            words.append(("-" if len(name) == 1 else "--") + name + ("" if value is True else f" {shlex.quote(str(value))}"))
     return " ".join(words)
 
 

@@ -9,8 +9,8 @@
     python3 tools/strength.py --list            the places that the sample is drawn from, and proves nothing
 
     -n N           how many edits are judged            --seed S       another sample
-    --copy DIR     the copy to work in (target/strength) --only WORD   the wrong programs, twins or rules of --larger with this word
-    --skip WORDS   the sample leaves out files with one of these words in their name (a comma between two)
+    --copy DIR     the copy to work in (target/strength) --only WORDS  the wrong programs, twins or rules of --larger with one of these words
+    --skip WORDS   the sample leaves out files with one of these words in their name (here, and in --only, a comma between two)
     --run          for each twin, also a program whose output changes
     --report FILE  writes the rows to this file of docs/strength/, whole
 
@@ -30,7 +30,7 @@ import time
 
 sys.dont_write_bytecode = True
 
-from edits import Source, constant_sites, full_name, region, sites_of, untried, wrong_programs
+from edits import Source, asked_for, constant_sites, full_name, region, sites_of, untried, wrong_programs
 from larger import try_larger
 from proving import ROOT, Copy, short, told
 from reporting import command, row, write
@@ -88,7 +88,7 @@ def wrong(copy, asked):
         print(f"{name}: fewer than two wrong programs")
     tally, rows = {}, []
     for number, program in enumerate(programs, 1):
-        if asked.only and asked.only not in program.file + " " + program.function:
+        if not asked_for(asked.only, program.searched):
             continue
         start = region(source.text[program.file], program.place or program.function, program.old)
         began = time.time()
