@@ -8,7 +8,7 @@ LEFT = 84
 RIGHT = WIDE - MARGIN
 HIGH = 220
 HEAD = 20
-FOOT = 34
+FOOT = 47
 
 WORDS = {"14 04": "stop pedalling", "14 02": "success"}
 FILLS = {"no run": "#ffffff", "a run that has said nothing": TINTS[0], "a run that has said 4": TINTS[1]}
@@ -22,8 +22,9 @@ class Speed(NamedTuple):
 
 
 class Coast(NamedTuple):
-    """What is written to start the run, its two targets, the run after that, and the speeds."""
+    """What is written to start the run, the response, its two targets, the run after that, and the speeds."""
     write: str
+    response: str
     low: int
     high: int
     run: str
@@ -31,17 +32,17 @@ class Coast(NamedTuple):
 
 
 def started(line):
-    """What a start writes, and the two targets of its response, least octet first."""
-    found = re.fullmatch(r"client \d+ writes (13 01): response 80 13 01 (..) (..) (..) (..)", line)
+    """What a start writes, its response, and the two targets in it, least octet first."""
+    found = re.fullmatch(r"client \d+ writes (13 01): response (80 13 01((?: [0-9A-F]{2}){4}))", line)
     if not found:
         raise ValueError("`%s` is no start that succeeds" % line)
-    octets = [int(octet, 16) for octet in found.groups()[1:]]
-    return found[1], octets[0] + 256 * octets[1], octets[2] + 256 * octets[3]
+    octets = bytes.fromhex(found[3])
+    return found[1], found[2], int.from_bytes(octets[:2], "little"), int.from_bytes(octets[2:], "little")
 
 
 def coast_of(lines):
     """The lines of one run: a start, then speeds; a line of state says which run there is after the line before it."""
-    write, low, high = started(lines[0])
+    write, response, low, high = started(lines[0])
     runs, speeds = [], []
     for line in lines[1:]:
         fed = re.fullmatch(r"flywheel speed (\d+)(?:: status (.. ..))?", line)
@@ -55,7 +56,7 @@ def coast_of(lines):
             raise ValueError("`%s` is no line of a run that is known" % line)
     if not speeds or not runs or not speeds[0].run:
         raise ValueError("no speeds, or no run before them")
-    return Coast(write, low, high, runs[0], speeds)
+    return Coast(write, response, low, high, runs[0], speeds)
 
 
 class Scale:
@@ -104,10 +105,10 @@ def draw_status(picture, x, y, status):
     picture.block(x - 6, y + 17, ["status " + status, WORDS[status]], anchor="end")
 
 
-def label_of(place, speed, lines):
-    """Where a speed's number begins: above its point, or below it if one of the dashed lines would go through the number there."""
+def label_of(place, after, speed, lines):
+    """Where a speed's number begins: above its point, or below it if a dashed line, or the line to the point after it, would go through the number there."""
     x, y = place
-    crossed = any(y - 18 < line < y - 4 for line in lines)
+    crossed = after[1] < y or any(y - 18 < line < y - 4 for line in lines)
     return x + (4 if speed.status else -4), y + (17 if crossed else -8)
 
 
@@ -116,10 +117,10 @@ def draw_speeds(picture, scale, coast):
     places = [(scale.x(i), scale.y(speed.speed)) for i, speed in enumerate(coast.speeds, 1)]
     lines = [scale.y(coast.low), scale.y(coast.high)]
     picture.path("M" + "L".join("%s %s" % (number(x), number(y)) for x, y in places), thick=1.5)
-    for place, speed in zip(places, coast.speeds):
+    for place, after, speed in zip(places, places[1:] + places[-1:], coast.speeds):
         style = 'fill="%s" stroke="#000000" stroke-width="1.5"' % ("#000000" if speed.status else "#ffffff")
         picture.draw("circle", style, cx=place[0], cy=place[1], r=3.5)
-        picture.text(*label_of(place, speed, lines), str(speed.speed), "start")
+        picture.text(*label_of(place, after, speed, lines), str(speed.speed), "start")
         if speed.status:
             draw_status(picture, *place, speed.status)
 
@@ -133,6 +134,6 @@ def coast_picture(title, lines):
     for name, speed in (("high", coast.high), ("low", coast.low)):
         draw_target(picture, scale, name, speed)
     draw_speeds(picture, scale, coast)
-    picture.text(LEFT, scale.foot + 14, "write " + coast.write, "start", bold=True)
-    picture.text((LEFT + RIGHT) / 2, scale.foot + 14, "the flywheel's speeds, one after another")
+    picture.block(LEFT, scale.foot + 14, ["write " + coast.write, "response " + coast.response], anchor="start")
+    picture.text(RIGHT, scale.foot + 14, "the flywheel's speeds, in 0.01 km/h, one after another", "end")
     return picture.svg(scale.foot + FOOT - 10)

@@ -14,6 +14,7 @@ pub mod Cases
 pub mod Worked
 pub mod Rules
 pub mod Answered
+pub mod Demanded
 pub mod Meets
 pub mod Liars
 pub mod Coasters

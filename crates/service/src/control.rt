@@ -193,7 +193,7 @@ impl Console {
         accepted(self.with(client, joined))
     }
 
-    // A client disconnects, which frees control that it holds, its indications and its awaited response; refusals 10, 17.
+    // A client disconnects, which frees control that it holds, its indications and its awaited response, and ends the run if it holds control; refusals 10, 17.
     pub fn disconnect(self, client: u8) -> Reply
         ensures { λ r. ⌜ Says r (disconnects self client) ⌝ }
     {

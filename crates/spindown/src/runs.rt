@@ -28,8 +28,9 @@ pub(crate) fn take_control(opened: Console) -> Console {
 }
 
 // A run through both targets. The response to the start has low and high. At 2000, the first speed
-// at or below high, the console says 4, and does not say it again; at 1000, the first at or below
-// low, it says 2, and the run is over: the last speed does nothing.
+// at or below high, the console says 4, and does not say it again, although the speed rises above
+// high once more; at 1000, the first speed at or below low, it says 2, success, and the run is
+// over: the last speed does nothing.
 pub(crate) fn coast(held: Console) -> Console {
     print(b"== a run through both targets\n");
     let mut console = exchange(held, 0, &START);
@@ -40,16 +41,16 @@ pub(crate) fn coast(held: Console) -> Console {
     console = flywheel(console, 2001);
     console = flywheel(console, 2000);
     state(b"now: ", console);
-    console = flywheel(console, 1999);
-    console = flywheel(console, 2001);
+    console = flywheel(console, 1700);
+    console = flywheel(console, 2200);
     console = flywheel(console, 1500);
     console = flywheel(console, 1000);
     state(b"now: ", console);
     flywheel(console, 900)
 }
 
-// Writes that fail in a run and leave it: a second start, 04; neither 1 nor 2, 03; an ignore by a
-// client that does not hold control, 05, who then disconnects.
+// Writes that fail in a run leave it: a second start, 04; neither 1 nor 2, 03; an ignore by a
+// client that does not hold control, 05; and so does the disconnect of that client.
 pub(crate) fn fail(held: Console) -> Console {
     print(b"== writes that fail in a run\n");
     let mut console = exchange(held, 0, &START);
@@ -74,9 +75,9 @@ pub(crate) fn ignore(running: Console) -> Console {
     console
 }
 
-// The first speed of a run is at low: the console says 2 at once, and never 4.
+// The first speed of a run is at low: the console says 2, success, at once, and never 4.
 pub(crate) fn finish_at_once(held: Console) -> Console {
-    print(b"== a run at or below low at once\n");
+    print(b"== a run that succeeds at once\n");
     let mut console = exchange(held, 0, &START);
     state(b"now: ", console);
     console = flywheel(console, 1000);
@@ -84,7 +85,7 @@ pub(crate) fn finish_at_once(held: Console) -> Console {
     console
 }
 
-// A reset ends a run: its status is 01, as always, and the run says nothing more.
+// A reset ends a run: its status is 01, as always, and nothing is said of the run.
 pub(crate) fn reset(held: Console) -> Console {
     print(b"== a run that a reset ends\n");
     let mut console = exchange(held, 0, &START);
@@ -96,7 +97,8 @@ pub(crate) fn reset(held: Console) -> Console {
     flywheel(console, 900)
 }
 
-// The reset has freed control, so client 0 takes it again; when it disconnects, its run is over.
+// The reset has freed control, so client 0 takes it again; when it disconnects, its run is over,
+// and nothing is said.
 pub(crate) fn leave(freed: Console) -> Console {
     print(b"== a run that the holder's disconnect ends\n");
     let mut console = exchange(freed, 0, &REQUEST_CONTROL);

@@ -28,13 +28,13 @@ use Rattle.service.specs.Control.Replies.{sent}
 use Rattle.service.specs.Control.Calls.{Opening, open-with, opened, connects, disconnects, indicates, confirms, writes, feeds}
 use Rattle.service.proofs.ControlLaws.Answers.{setup-of}
 use Rattle.demands.specs.Control.Point.{Call, connect, disconnect, confirm, indicate, write, flywheel, Point, service, Event, event, step, run}
-use Rattle.demands.specs.Control.Laws.{any, holder-by}
+use Rattle.demands.specs.Control.Laws.{holder-by}
 use Rattle.demands.specs.Control.History.{mode-by, awaited-by, connected-by, indicating-by}
-use Rattle.demands.specs.Control.Runs.{Led, at-most, led-by, run-of}
+use Rattle.demands.specs.Control.Runs.{Led, led-by, run-of}
 use Rattle.demands.specs.Control.Rules as rule
 use Rattle.demands.specs.Control.Answered.{response-by, answer-by, OctetIn, OctetsIn, reversed, refusal-by, AnswersByHistory}
 use Rattle.demands.proofs.ControlLaws.Rules.{followed-so, status-so, result-so}
-use Rattle.demands.proofs.ControlLaws.Spoken.{on-of, said-so}
+use Rattle.demands.proofs.ControlLaws.Spoken.{on-led, said-so}
 use Rattle.demands.proofs.ControlLaws.Runs.{run-by-history}
 use Rattle.demands.proofs.ControlLaws.Changes.{fixed-at-opening}
 use Rattle.demands.proofs.ControlLaws.Kept.{run-keeps}
@@ -65,12 +65,13 @@ module _ (s : Setup) (past : List Event) (k : Console) (t : Told s past k) where
   response-so c o p h =
       let r : WriteResult = result (k .machine) c o p in
       let d : Led = led-by (s .speeds) past in
-      let g : on (k .machine .run) ≡ d .on = ap on (t .run-so) ∙ on-of (d .on) (any (at-most (s .speeds .high)) (d .speeds)) in
+      let g : on (k .machine .run) ≡ d .on = ap on (t .run-so) ∙ on-led (s .speeds) d in
       let n : result-number r ≡ rule.result s (holder-by past []) (mode-by past) (d .on) c o p =
       result-so (k .machine) c p o h ∙ (λ i. rule.result (t .setup-so i) (t .holder-so i) (t .mode-so i) (g i) c o p) in
       let y : success-followed (k .machine .setup .speeds) (op-code o) p ≡ rule.followed (s .speeds) o p =
       followed-so (k .machine .setup .speeds) p o h ∙ ap (λ (x : Setup). rule.followed (x .speeds) o p) (t .setup-so) in
-      (λ i. sent (0x80 ∷ o ∷ n i ∷ cond ((success-01 r ∙ ap (λ (x : ℕ). eqb x 0x01) n) i) (y i) []) (cond ((success-01 r ∙ ap (λ (x : ℕ). eqb x 0x01) n) i) (status-so p o h i) []))
+      let w : succeeds r ≡ eqb (rule.result s (holder-by past []) (mode-by past) (d .on) c o p) 0x01 = success-01 r ∙ ap (λ (x : ℕ). eqb x 0x01) n in
+      (λ i. sent (0x80 ∷ o ∷ n i ∷ cond (w i) (y i) []) (cond (w i) (status-so p o h i) []))
 
   answer-so : (q : Call) → OctetIn q → step k q .0 ≡ answer-by s past q
   unfolding connects disconnects indicates confirms writes feeds

@@ -79,7 +79,8 @@ results-02-to-05 k c s h = only-awaits k (steps k (write c s)) h
 
 -- ---- a call that the holder did not make
 module _ (m : Machine) (w : Who) where
-  spared : {n : Machine} → n .settings ≡ m .settings → n .mode ≡ m .mode → n .setup ≡ m .setup → n .holder ≡ m .holder → (n .run ≡ m .run) ⊎ (w ≡ Nobody) → Spared m w n
+  spared : {n : Machine} → n .settings ≡ m .settings → n .mode ≡ m .mode → n .setup ≡ m .setup → n .holder ≡ m .holder →
+      (n .run ≡ m .run) ⊎ (w ≡ Nobody) → Spared m w n
   spared a b d e r = record { same-settings = a; same-mode = b; same-setup = d; same-run = r; holder-or-new = inl e }
 
 spared-done : (m : Machine) (c : ℕ) → (m .holder ≡ Client c → ⊥) → (p : List ℕ) (a : Act) → controls (m .holder) c a ≡ true →

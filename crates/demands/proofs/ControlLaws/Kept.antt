@@ -180,8 +180,12 @@ sound-stepped k s (gone c h e) = record {
 sound-stepped k s (indicated c on h e) = record { links = links-joined k (s .links) c h on; room = s .room; right = s .right; run-held = s .run-held }
 sound-stepped k s (confirmed c h e f) =
     record { links = links-who k (s .links) (k .machine) Nobody tt (s .links .holder-connected); room = s .room; right = s .right; run-held = s .run-held }
-sound-stepped k s (denied c o p h r n) =
-    record { links = links-who k (s .links) (k .machine) (Client c) (h .joined) (s .links .holder-connected); room = s .room; right = s .right; run-held = s .run-held }
+sound-stepped k s (denied c o p h r n) = record {
+  links = links-who k (s .links) (k .machine) (Client c) (h .joined) (s .links .holder-connected);
+  room = s .room;
+  right = s .right;
+  run-held = s .run-held;
+}
 sound-stepped k s (granted c o p h x e g) = sound-done k s c o p x e (g .suits) (h .joined) (x .act) refl (g .controlled)
 sound-stepped k s (fed v) = record {
   links = links-who k (s .links) _ (k .awaited) (s .links .awaited-connected) (s .links .holder-connected);

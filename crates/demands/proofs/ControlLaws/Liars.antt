@@ -220,7 +220,7 @@ abbrev pub retold : (Call → Console → Answer Sent → Answer Sent) → Point
 retold f = record { opening = opened; calling = λ k q. (f q k (step k q .0), step k q .1) }
 
 -- alters the answers to writes only
-abbrev of-write : (ℕ → List ℕ → Console → Answer Sent → Answer Sent) → Call → Console → Answer Sent → Answer Sent
+abbrev pub of-write : (ℕ → List ℕ → Console → Answer Sent → Answer Sent) → Call → Console → Answer Sent → Answer Sent
 of-write f (connect c) before a = a
 of-write f (disconnect c) before a = a
 of-write f (confirm c) before a = a

@@ -2,7 +2,7 @@
 use Prim.Native.Nat.{ℕ, _≤_}
 use mathlib.Core.Path.{_≡_, refl, sym, ap, _∙_}
 use mathlib.Core.Logic.{_⊎_}
-use mathlib.Core.Bool.{Bool, true}
+use mathlib.Core.Bool.{Bool, true, false}
 use mathlib.Core.List.{List, [], _∷_}
 use base.Fml.{Lft}
 use denote.Ref.{RefT, now}
@@ -16,10 +16,11 @@ use Rattle.service.specs.declared.control.ranges.Ranges.{Ranges}
 use Rattle.service.specs.declared.control.machine.Who.the-variants.{Client}
 use Rattle.service.specs.declared.control.judging.WriteResult.the-variants.{Success}
 use Rattle.service.specs.Control.OpCodes.{op-code}
+use Rattle.service.specs.Control.SpinDown.{on}
 use Rattle.service.specs.Control.Judging.{result-number}
 use Rattle.service.specs.Control.Effects.{setting}
 use Rattle.service.specs.Control.Console.{is-connected, is-indicating}
-use Rattle.service.specs.Control.Replies.{Sent, refusal-of, meant}
+use Rattle.service.specs.Control.Replies.{Sent, refusal-of, accepts, meant}
 use Rattle.service.specs.Control.Calls.{Opening, opening, opened, open-reply}
 use Rattle.service.proofs.control.Console.open.Reads as open-code
 use Rattle.service.proofs.control.Console.connect.Reads as connect-code
@@ -37,7 +38,7 @@ use Rattle.demands.proofs.ControlLaws.Kept.{sound-step, sound-after}
 use Rattle.demands.proofs.ControlLaws.Changes.{refusals, by-another}
 use Rattle.demands.proofs.ControlLaws.History.{holder-by-history}
 use Rattle.demands.proofs.ControlLaws.Remembered.{mode-by-history, awaited-by-history, connected-by-history, indicating-by-history}
-use Rattle.demands.proofs.ControlLaws.Runs.{run-by-history, says-by-run}
+use Rattle.demands.proofs.ControlLaws.Runs.{run-by-history, says-by-run, outside-run}
 use Rattle.demands.proofs.ControlLaws.Answered.{answers-by-history}
 use Rattle.demands.proofs.ControlLaws.Settings.{setting-by-history, granted-to-holder}
 use Rattle.demands.proofs.ControlLaws.Alive.{alive-after}
@@ -98,6 +99,10 @@ module _ {k : Console} {q : Call} {x : Answer Sent × Console} (d : Did k q x) w
 pub ours-to-holder : {k : Console} {c o : ℕ} {p : List ℕ} {x : Answer Sent × Console} → Did k (write c (o ∷ p)) x → stores (op-code o) ≡ true →
     result-in (x .0) ≡ result-number Success → k .machine .holder ≡ Client c
 ours-to-holder {k} {c} {o} {p} d t h = granted-to-holder k c o p t (rw (steps-alike d) at h)
+
+-- outside a run a speed says nothing and changes nothing
+pub ours-outside : {k : Console} {v : ℕ} {x : Answer Sent × Console} → Did k (flywheel v) x → on (k .machine .run) ≡ false → x ≡ accepts k
+ours-outside {k} {v} d h = steps-alike d ∙ outside-run k v h
 
 -- ---- "control point answers and status octets are those of Fitness Machine Service 1.0": whoever answers as the contracts of the code say
 

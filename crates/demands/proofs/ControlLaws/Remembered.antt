@@ -148,8 +148,8 @@ mode-stepped k (indicated c on h e) = refl
 mode-stepped k (confirmed c h e f) = refl
 mode-stepped k (denied c o p h r e) = rw (not-01 r e)
 mode-stepped k (granted c o p h x e g) =
-    unfold next-mode in mode-done (k .machine) c o p (followed-by (k .machine .setup .speeds) (x .act) (number 1 p)) (status-octets (x .status) p) (x .bound) (x .act) (table-rule (λ o x. moves o (x .bound) (x .act)) refl o x e)
-    (allowed-fit (k .machine .setup .ranges) x p (g .suits))
+    unfold next-mode in mode-done (k .machine) c o p (followed-by (k .machine .setup .speeds) (x .act) (number 1 p)) (status-octets (x .status) p)
+    (x .bound) (x .act) (table-rule (λ o x. moves o (x .bound) (x .act)) refl o x e) (allowed-fit (k .machine .setup .ranges) x p (g .suits))
 mode-stepped k (fed v) = refl
 
 pub mode-by-history : ModeByHistory service

@@ -157,12 +157,6 @@ another-so (Client d) c = elim (tested (eqb d c)) [
   | failed e ↦ rw e
 ]
 
-and-turned : (a b : Bool) → (a && b) ≡ (b && a)
-and-turned true true = refl
-and-turned true false = refl
-and-turned false true = refl
-and-turned false false = refl
-
 runs-so : (a : Mode) → runs a ≡ rule.running a
 runs-so Stopped = refl
 runs-so Running = refl
@@ -203,7 +197,7 @@ module _ (m : Machine) (c : ℕ) (p : List ℕ) where
   failing-rule o = λ i.
       cond (eqb o 0x00) (another-so (m .holder) c i)
       (cond (eqb o 0x07) (runs-so (m .mode) i)
-      (cond (eqb o 0x08) (halts-so (m .mode) (number 1 p) i) (cond (eqb o 0x13) (and-turned (on (m .run)) (eqb (number 1 p) 1) i) false)))
+      (cond (eqb o 0x08) (halts-so (m .mode) (number 1 p) i) (cond (eqb o 0x13) (no-start (m .run) (number 1 p)) false)))
 
   failing-so : (o : ℕ) → o ≤ 255 → failing-by m c (op-code o) (number 1 p) ≡ failing o
   unfolding op-code

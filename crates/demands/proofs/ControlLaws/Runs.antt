@@ -1,7 +1,7 @@
 -- A run of spin down after any sequence of calls is the one that the history says, and says what its speeds say.
 use Prim.Native.Nat.{ℕ, _≤_}
 use mathlib.Core.Path.{_≡_, refl, sym, ap, subst, _∙_}
-use mathlib.Core.Bool.{Bool, true, false, cond, not, _&&_, _||_, true≢false}
+use mathlib.Core.Bool.{Bool, true, false, cond, not, _&&_, true≢false}
 use mathlib.Core.List.{List, [], _∷_, _++_, append-nil}
 use native.Mathlib.Omega.{arith}
 use lib.Dec.{eqb, leb}
@@ -25,29 +25,27 @@ use Rattle.service.specs.declared.control.op_codes.Status.{Status}
 use Rattle.service.specs.declared.control.op_codes.Status.the-variants.{Silent, Octet, Echo}
 use Rattle.service.specs.declared.control.op_codes.Lookup.the-variants.{Known}
 use Rattle.service.specs.declared.control.judging.WriteResult.the-variants.{Success}
-use Rattle.service.specs.Control.Ranges.{allowed}
 use Rattle.service.specs.Control.OpCodes.{op-code}
 use Rattle.service.specs.Control.SpinDown.{on, followed-by, success-said, stop-said, said-at, run-at}
 use Rattle.service.specs.Control.Machine.{is, someone, without, spinning}
 use Rattle.service.specs.Control.Judging.{controls, fails}
 use Rattle.service.specs.Control.Effects.{response-octets, status-octets, done}
 use Rattle.service.specs.Control.Console.{is-connected, with-machine, first}
-use Rattle.service.specs.Control.Replies.{Sent, sent, status-of, responds, accepts}
+use Rattle.service.specs.Control.Replies.{Sent, sent, responds, accepts}
 use Rattle.service.specs.Control.Calls.{Opening, opened, feeds}
 use Rattle.service.proofs.ControlLaws.Rule.{table-rule}
 use Rattle.service.proofs.ControlLaws.Fits.{Granted, allowed-fit}
 use Rattle.service.proofs.ControlLaws.Answers.{setup-of}
 use Rattle.demands.specs.Control.Point.{Call, connect, disconnect, confirm, indicate, write, flywheel, service, Event, event, step, run}
-use Rattle.demands.specs.Control.Laws.{Present, Sound, ends, any, holder-by, is-disconnect}
-use Rattle.demands.specs.Control.History.{accepted}
-use Rattle.demands.specs.Control.Runs.{started, lost, ended, Led, at-most, feeding, next-led, led-by, run-of, said-by, first-above, words, value-in, spoken, RunByHistory, SaysByRun, OneOfFour, nothing, four, two, four-then-two}
+use Rattle.demands.specs.Control.Laws.{Present, Sound, by, ends, any, holder-by, is-disconnect}
+use Rattle.demands.specs.Control.Runs.{started, lost, ended, Led, at-most, feeding, next-led, led-by, run-of, first-above, words, said-in, spoken, RunByHistory, SaysByRun, OneOfFour, nothing, four, two, four-then-two}
 use Rattle.demands.proofs.ControlLaws.Numbers.{Number, number-so, not-01}
 use Rattle.demands.proofs.ControlLaws.Steps.{responding, Stepped, refusal, connected, gone, indicated, confirmed, denied, granted, fed, steps}
 use Rattle.demands.proofs.ControlLaws.Kept.{opened-first, sound-first, sound-step}
 use Rattle.demands.proofs.ControlLaws.Changes.{is-client, fixed-at-opening, setup-after}
 use Rattle.demands.proofs.ControlLaws.History.{and-no, holder-more}
 use Rattle.demands.proofs.ControlLaws.Remembered.{one-or-two, bound-so, not-so}
-use Rattle.demands.proofs.ControlLaws.Spoken.{on-of, fed-run, fed-above, fed-held, fed-words}
+use Rattle.demands.proofs.ControlLaws.Spoken.{on-led, fed-run, fed-above, fed-held, fed-words}
 
 -- ---- the table: only 13 leads a run, with 1 or 2, and no status of an op code is 14
 
@@ -64,16 +62,23 @@ unsaid Silent = true
 unsaid (Octet x) = not (eqb x 0x14)
 unsaid (Echo x) = not (eqb x 0x14)
 
-no-value : (s : Status) (p : List ℕ) → unsaid s ≡ true → value-in (status-octets s p) ≡ []
-no-value Silent p h = refl
-no-value (Octet x) p h = rw (not-so (eqb x 0x14) h)
-no-value (Echo x) p h = rw (not-so (eqb x 0x14) h)
+none-said : (c : ℕ) (w r : List ℕ) (s : Status) (p : List ℕ) → unsaid s ≡ true → said-in (event (write c w) (sent r (status-octets s p))) ≡ []
+none-said c w r Silent p h = refl
+none-said c w r (Octet x) p h = rw (not-so (eqb x 0x14) h)
+none-said c w r (Echo x) p h = rw (not-so (eqb x 0x14) h)
+
+-- a call that is refused says nothing
+refused-says : (q : Call) (n : ℕ) → said-in (event q (refused n)) ≡ []
+refused-says q n = elim (tested (someone (by q))) [
+  | passed e ↦ rw e
+  | failed e ↦ rw e
+]
 
 -- ---- one event
 
 -- what has been said after one more event
 abbrev next-spoken : Event → List ℕ → List ℕ
-next-spoken e before = cond (started e) [] (before ++ value-in (status-of (e .answer)))
+next-spoken e before = cond (started e) [] before ++ said-in e
 
 -- a console, the last run and what has been said belong together
 record Follows (t : TargetSpeeds) (r : Led) (said : List ℕ) (k : Console) : Type 0 where
@@ -107,15 +112,15 @@ module _ (k : Console) (r : Led) (said : List ℕ) (f : Follows (k .machine .set
   After e = Follows t (next-led t (k .machine .holder) e r) (next-spoken e said)
 
   -- an event that neither starts a run nor ends it nor feeds it leaves it; a run that goes on keeps its holder
-  keep : (e : Event) → started e ≡ false → ended (k .machine .holder) e ≡ false → cond (accepted e) (feeding t (e .call) r) r ≡ r →
-      value-in (status-of (e .answer)) ≡ [] → (n : Console) → n .machine .run ≡ k .machine .run →
+  keep : (e : Event) → started e ≡ false → ended (k .machine .holder) e ≡ false → feeding t (e .call) r ≡ r →
+      said-in e ≡ [] → (n : Console) → n .machine .run ≡ k .machine .run →
       (r .on ≡ true → n .machine .holder ≡ k .machine .holder) → After e n
   keep e s d a v n i h =
       rw (s, d, a, v, append-nil said)
       (record { run-so = i ∙ f .run-so; held = λ o. h o ∙ f .held o; above = f .above; said-so = f .said-so })
 
   -- an event that ends a run
-  over : (e : Event) → started e ≡ false → ended (k .machine .holder) e ≡ true → value-in (status-of (e .answer)) ≡ [] →
+  over : (e : Event) → started e ≡ false → ended (k .machine .holder) e ≡ true → said-in e ≡ [] →
       (n : Console) → n .machine .run ≡ Off → After e n
   over e s d v n i =
       rw (s, d, v, append-nil said)
@@ -140,20 +145,21 @@ module _ (k : Console) (r : Led) (said : List ℕ) (f : Follows (k .machine .set
         run-so = ap (λ x. run-at t x v) (f .run-so) ∙ fed-run t r v;
         held = λ o. f .held (fed-held t r v o .0) ∙ fed-held t r v o .1;
         above = fed-above t r v (f .above);
-        said-so = (λ i. f .said-so i ++ value-in (said-at t (f .run-so i) v)) ∙ fed-words t r v (f .above);
+        said-so = (λ i. f .said-so i ++ said-at t (f .run-so i) v) ∙ fed-words t r v (f .above);
       })
 
 -- ---- one call
 
 module _ (k : Console) (z : Sound k) (r : Led) (said : List ℕ) (f : Follows (k .machine .setup .speeds) r said k) where
   module _ (c o : ℕ) (p : List ℕ) (x : OpCode) (i : op-code o ≡ Known x) (g : Granted (k .machine) c x p) where
-    abbrev success-event : Event
-    success-event =
-        event (write c (o ∷ p))
-        (sent (response-octets o Success ++ followed-by (k .machine .setup .speeds) (x .act) (number 1 p)) (status-octets (x .status) p))
+    abbrev success-response : List ℕ
+    success-response = response-octets o Success ++ followed-by (k .machine .setup .speeds) (x .act) (number 1 p)
 
-    silent : value-in (status-octets (x .status) p) ≡ []
-    silent = no-value (x .status) p (table-rule (λ o x. unsaid (x .status)) refl o x i)
+    abbrev success-event : Event
+    success-event = event (write c (o ∷ p)) (sent success-response (status-octets (x .status) p))
+
+    silent : said-in success-event ≡ []
+    silent = none-said c (o ∷ p) success-response (x .status) p (table-rule (λ o x. unsaid (x .status)) refl o x i)
 
     -- an op code that is not 01 or 13
     unled : (o ≡ 1 → ⊥) → not (eqb o 0x13) ≡ true → (n : Console) → n .machine .run ≡ k .machine .run →
@@ -168,7 +174,7 @@ module _ (k : Console) (z : Sound k) (r : Led) (said : List ℕ) (f : Follows (k
         fails (k .machine) c a (number 1 p) ≡ false → After k r said f success-event (responding k (done (k .machine) c a p) c)
     run-done TakesControl e n s w q =
         unled (λ (y : o ≡ 1). omega arith) s _ refl
-        (λ b. had (k .machine .holder) c (z .run-held (ap on (f .run-so) ∙ on-of (r .on) (any (at-most (k .machine .setup .speeds .high)) (r .speeds)) ∙ b)) q)
+        (λ b. had (k .machine .holder) c (z .run-held (ap on (f .run-so) ∙ on-led (k .machine .setup .speeds) r ∙ b)) q)
     run-done Resets e n s w q =
         over k r said f success-event (rw n) (rw (n, is-client (k .machine .holder) c w) (eqb-same c)) silent _ refl
     run-done Starts e n s w q = unled (λ (y : o ≡ 1). omega arith) s _ refl (λ b. refl)
@@ -179,7 +185,8 @@ module _ (k : Console) (z : Sound k) (r : Led) (said : List ℕ) (f : Follows (k
         let b : x .bound ≡ OneOrTwo = bound-so (x .bound) (and-r (eqb o 0x13) (one-or-two (x .bound)) s) in
         let l : (leb 1 (number 1 p) && leb (number 1 p) 2) ≡ true = rw b at (allowed-fit (k .machine .setup .ranges) x p (g .suits)) in
         elim (tested (eqb (number 1 p) 1)) [
-          | passed y ↦ rw (h, y) (record { run-so = refl; held = λ o. is-client (k .machine .holder) c w; above = λ o. refl; said-so = refl })
+          | passed y ↦
+              rw (h, y, silent) (record { run-so = refl; held = λ o. is-client (k .machine .holder) c w; above = λ o. refl; said-so = refl })
           | failed y ↦
               over k r said f success-event (rw (h, y)) (rw (h, eqb-true (two l (eqb-ne (number 1 p) 1 y)))) silent _ (rw y)
         ]
@@ -199,21 +206,32 @@ module _ (k : Console) (z : Sound k) (r : Led) (said : List ℕ) (f : Follows (k
         keep k r said f (event (disconnect c) (sent [] [])) refl (lost-other (k .machine .holder) c y) refl refl l (i ∙ rw y) (λ o. h ∙ rw y)
   ]
 
-  run-stepped : {q : Call} {x : Answer Sent × Console} → Stepped k q x → After k r said f (event q (x .0)) (x .1)
-  run-stepped {q} (refusal n l g) =
+  -- a call that feeds no speed
+  run-stepped : {q : Call} {x : Answer Sent × Console} → feeding (k .machine .setup .speeds) q r ≡ r → Stepped k q x →
+      After k r said f (event q (x .0)) (x .1)
+  run-stepped {q} u (refusal n l g) =
       keep k r said f (event q (refused n)) refl
       (lost-none (k .machine .holder) (event q (refused n)) (λ d. rw (eqb-false (λ (e : n ≡ 0). omega arith), and-no (is-disconnect q))))
-      (rw (eqb-false (λ (e : n ≡ 0). omega arith))) refl k refl (λ o. refl)
-  run-stepped {q} (connected c h e) = keep k r said f (event q (sent [] [])) refl (lost-none (k .machine .holder) _ (λ d. refl)) refl refl _ refl (λ o. refl)
-  run-stepped (gone c h e) = gone-so c _ refl refl
-  run-stepped {q} (indicated c b h e) = keep k r said f (event q (sent [] [])) refl (lost-none (k .machine .holder) _ (λ d. refl)) refl refl _ refl (λ o. refl)
-  run-stepped {q} (confirmed c h e g) = keep k r said f (event q (sent [] [])) refl (lost-none (k .machine .holder) _ (λ d. refl)) refl refl _ refl (λ o. refl)
-  run-stepped {q} (denied c o p h w e) =
+      u (refused-says q n) k refl (λ o. refl)
+  run-stepped {q} u (connected c h e) = keep k r said f (event q (sent [] [])) refl (lost-none (k .machine .holder) _ (λ d. refl)) refl refl _ refl (λ o. refl)
+  run-stepped u (gone c h e) = gone-so c _ refl refl
+  run-stepped {q} u (indicated c b h e) = keep k r said f (event q (sent [] [])) refl (lost-none (k .machine .holder) _ (λ d. refl)) refl refl _ refl (λ o. refl)
+  run-stepped {q} u (confirmed c h e g) = keep k r said f (event q (sent [] [])) refl (lost-none (k .machine .holder) _ (λ d. refl)) refl refl _ refl (λ o. refl)
+  run-stepped {q} u (denied c o p h w e) =
       keep k r said f (event q (sent (response-octets o w) [])) (rw (not-01 w e))
       (rw (not-01 w e) (lost-none (k .machine .holder) (event q (sent (response-octets o w) [])) (λ d. rw (not-01 w e)))) refl refl _ refl (λ o. refl)
-  run-stepped (granted c o p h x e g) =
+  run-stepped u (granted c o p h x e g) =
       run-done c o p x e g (x .act) refl (number-so o x e) (table-rule (λ o x. leads o (x .bound) (x .act)) refl o x e) (g .controlled) (g .right)
-  run-stepped (fed v) = feeds-so k r said f v
+  run-stepped u (fed v) = feeds-so k r said f v
+
+  run-called : (q : Call) → After k r said f (event q (step k q .0)) (step k q .1)
+  unfolding feeds
+  run-called (connect c) = run-stepped refl (steps k (connect c))
+  run-called (disconnect c) = run-stepped refl (steps k (disconnect c))
+  run-called (confirm c) = run-stepped refl (steps k (confirm c))
+  run-called (indicate c b) = run-stepped refl (steps k (indicate c b))
+  run-called (write c s) = run-stepped refl (steps k (write c s))
+  run-called (flywheel v) = feeds-so k r said f v
 
 -- ---- sequences of calls
 
@@ -226,9 +244,9 @@ ran-more : (k : Console) → Sound k → (past : List Event) (q : Call) → k .m
 unfolding led-by spoken
 ran-more k z past q h f =
     let e : Event = event q (step k q .0) in
+    let s : TargetSpeeds = k .machine .setup .speeds in
     subst (λ (t : TargetSpeeds). Follows t (led-by t (e ∷ past)) (spoken (e ∷ past)) (step k q .1)) (sym (ap (λ s. s .speeds) (fixed-at-opening k q)))
-    (subst (λ (w : Who). Follows (k .machine .setup .speeds) (next-led (k .machine .setup .speeds) w e (led-by (k .machine .setup .speeds) past)) (spoken (e ∷ past)) (step k q .1)) h
-    (run-stepped k z (led-by (k .machine .setup .speeds) past) (spoken past) f (steps k q)))
+    (subst (λ (w : Who). Follows s (next-led s w e (led-by s past)) (spoken (e ∷ past)) (step k q .1)) h (run-called k z (led-by s past) (spoken past) f q))
 
 ran : (k : Console) → Sound k → (past : List Event) (qs : List Call) → k .machine .holder ≡ holder-by past [] → Ran past k →
     Ran (run service k past qs .0) (run service k past qs .1)
@@ -262,16 +280,13 @@ says-by-run o k e qs = ran-after o k e qs .said-so
 
 -- ---- what one run says is nothing, 4, 2, or 4 then 2
 pub words-four : (t : TargetSpeeds) (vs : List ℕ) → OneOfFour (words t vs)
-words-four t vs = elim (tested (first-above t vs)) [
-  | passed e ↦ elim (tested (any (at-most (t .low)) vs)) [
-    | passed f ↦ rw (e, f) four-then-two
-    | failed f ↦ rw (e, f) four
-  ]
-  | failed e ↦ elim (tested (any (at-most (t .low)) vs)) [
-    | passed f ↦ rw (e, f) two
-    | failed f ↦ rw (e, f) nothing
-  ]
-]
+words-four t vs = of (first-above t vs) (any (at-most (t .low)) vs)
+  where
+    of : (a b : Bool) → OneOfFour (cond a stop-said [] ++ cond b success-said [])
+    of true true = four-then-two
+    of true false = four
+    of false true = two
+    of false false = nothing
 
 -- ---- outside a run a speed says nothing and changes nothing
 pub outside-run : (k : Console) (v : ℕ) → on (k .machine .run) ≡ false → step k (flywheel v) ≡ accepts k
@@ -288,35 +303,31 @@ outside-run k v h = from (k .machine .run) refl h
 
 -- ---- a run is there only while a connected client holds control
 pub run-connected : (k : Console) → Sound k → on (k .machine .run) ≡ true → (c : ℕ) × (k .machine .holder ≡ Client c) × (is-connected k c ≡ true)
-run-connected k s h = from (k .machine .holder) refl (s .run-held h) (s .links .holder-connected)
+run-connected k s h = from (k .machine .holder) (s .run-held h) (s .links .holder-connected)
   where
-    from : (w : Who) → k .machine .holder ≡ w → someone w ≡ true → Present (k .clients) w → (c : ℕ) × (k .machine .holder ≡ Client c) × (is-connected k c ≡ true)
-    from Nobody e f p = absurd (true≢false (sym f))
-    from (Client c) e f p = (c, e, p)
+    from : (w : Who) → someone w ≡ true → Present (k .clients) w → (c : ℕ) × (w ≡ Client c) × (is-connected k c ≡ true)
+    from Nobody f p = absurd (true≢false (sym f))
+    from (Client c) f p = (c, refl, p)
 
 -- ---- nothing is said after 2 until a new start
 
 two-said : (t : TargetSpeeds) (vs : List ℕ) → any (eqb 2) (words t vs) ≡ any (at-most (t .low)) vs
-two-said t vs = elim (tested (first-above t vs)) [
-  | passed e ↦ elim (tested (any (at-most (t .low)) vs)) [
-    | passed f ↦ rw (e, f)
-    | failed f ↦ rw (e, f)
-  ]
-  | failed e ↦ elim (tested (any (at-most (t .low)) vs)) [
-    | passed f ↦ rw (e, f)
-    | failed f ↦ rw (e, f)
-  ]
-]
+two-said t vs = of (first-above t vs) (any (at-most (t .low)) vs)
+  where
+    of : (a b : Bool) → any (eqb 2) (cond a stop-said [] ++ cond b success-said []) ≡ b
+    of true true = refl
+    of true false = refl
+    of false true = refl
+    of false false = refl
 
 pub nothing-after-2 : (o : Opening) (k : Console) → opened o ≡ given k → (qs : List Call) → any (eqb 2) (spoken (run service k [] qs .0)) ≡ true →
     (v : ℕ) → step (run service k [] qs .1) (flywheel v) ≡ accepts (run service k [] qs .1)
 nothing-after-2 o k e qs h v =
     let r : Led = led-by (o .speeds) (run service k [] qs .0) in
     let f : Follows (o .speeds) r (spoken (run service k [] qs .0)) (run service k [] qs .1) = ran-after o k e qs in
-    outside-run (run service k [] qs .1) v (ap on (f .run-so) ∙ on-of (r .on) (any (at-most (o .speeds .high)) (r .speeds)) ∙ over-by r (f .above) (sym (two-said (o .speeds) (r .speeds)) ∙ ap (any (eqb 2)) (sym (f .said-so)) ∙ h))
+    let l : any (at-most (o .speeds .low)) (r .speeds) ≡ true = sym (two-said (o .speeds) (r .speeds)) ∙ ap (any (eqb 2)) (sym (f .said-so)) ∙ h in
+    outside-run (run service k [] qs .1) v (ap on (f .run-so) ∙ on-led (o .speeds) r ∙ over-by (r .on) (f .above) l)
   where
-    over-by : (r : Led) → (r .on ≡ true → any (at-most (o .speeds .low)) (r .speeds) ≡ false) → any (at-most (o .speeds .low)) (r .speeds) ≡ true → r .on ≡ false
-    over-by r a b = elim (tested (r .on)) [
-      | passed c ↦ absurd (true≢false (sym b ∙ a c))
-      | failed c ↦ c
-    ]
+    over-by : (z : Bool) {b : Bool} → (z ≡ true → b ≡ false) → b ≡ true → z ≡ false
+    over-by true a l = absurd (true≢false (sym l ∙ a refl))
+    over-by false a l = refl

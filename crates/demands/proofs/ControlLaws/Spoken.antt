@@ -1,9 +1,8 @@
 -- What a run says over its speeds, when one more is fed.
 use Prim.Native.Nat.{ℕ}
-use mathlib.Core.Path.{_≡_, refl, sym, ap, _∙_}
+use mathlib.Core.Path.{_≡_, refl, sym}
 use mathlib.Core.Bool.{Bool, true, false, cond, not, _&&_, _||_, true≢false}
-use mathlib.Core.List.{List, [], _∷_, _++_}
-use lib.Dec.{eqb, leb}
+use mathlib.Core.List.{List, [], _∷_, _++_, append-nil}
 use Rattle.record.proofs.Tests.{passed, failed, tested}
 use Rattle.service.specs.declared.control.machine.Who.{Who}
 use Rattle.service.specs.declared.control.spin_down.TargetSpeeds.{TargetSpeeds}
@@ -12,7 +11,7 @@ use Rattle.service.specs.declared.control.spin_down.Run.the-variants.{Off, Quie
 use Rattle.service.specs.Control.SpinDown.{on, success-said, stop-said, said-at, run-at}
 use Rattle.demands.specs.Control.Point.{flywheel}
 use Rattle.demands.specs.Control.Laws.{any}
-use Rattle.demands.specs.Control.Runs.{Led, at-most, feeding, run-of, said-by, first-above, words, value-in}
+use Rattle.demands.specs.Control.Runs.{Led, at-most, feeding, run-of, said-by, first-above, words}
 
 -- ---- truth values
 
@@ -24,10 +23,14 @@ or-no false = refl
 abbrev led : Bool → Run
 led a = cond a Warned Quiet
 
-pub on-of : (z a : Bool) → on (cond z (led a) Off) ≡ z
+on-of : (z a : Bool) → on (cond z (led a) Off) ≡ z
 on-of true true = refl
 on-of true false = refl
 on-of false a = refl
+
+-- there is a run if the last one is on
+pub on-led : (t : TargetSpeeds) (r : Led) → on (run-of t r) ≡ r .on
+on-led t r = on-of (r .on) (any (at-most (t .high)) (r .speeds))
 
 module _ (t : TargetSpeeds) (v : ℕ) where
   abbrev low : Bool
@@ -92,8 +95,8 @@ module _ (t : TargetSpeeds) where
   -- ---- one more speed
 
   spoken-bits : (a l h : Bool) →
-      (cond a (4 ∷ []) [] ++ []) ++ value-in (cond l success-said (cond (h && not a) stop-said [])) ≡
-      cond (cond a a (h && not l)) (4 ∷ []) [] ++ cond l (2 ∷ []) []
+      (cond a stop-said [] ++ []) ++ cond l success-said (cond (h && not a) stop-said []) ≡
+      cond (cond a a (h && not l)) stop-said [] ++ cond l success-said []
   spoken-bits true true true = refl
   spoken-bits true true false = refl
   spoken-bits true false true = refl
@@ -104,7 +107,7 @@ module _ (t : TargetSpeeds) where
   spoken-bits false false false = refl
 
   words-more : (vs : List ℕ) (v : ℕ) → any (at-most (t .low)) vs ≡ false →
-      words t vs ++ value-in (said-at t (led (any (at-most (t .high)) vs)) v) ≡ words t (vs ++ v ∷ [])
+      words t vs ++ said-at t (led (any (at-most (t .high)) vs)) v ≡ words t (vs ++ v ∷ [])
   words-more vs v h =
       let a : Bool = any (at-most (t .high)) vs in
       rw (led-says t v a, first-more vs v, any-more (at-most (t .low)) vs v, h, first-any vs h) (spoken-bits a (at-most (t .low) v) (at-most (t .high) v))
@@ -142,15 +145,11 @@ module _ (t : TargetSpeeds) where
   fed-held r v = on-before (r .on) (r .starter) (r .speeds) v
 
   pub fed-words : (r : Led) (v : ℕ) → (r .on ≡ true → any (at-most (t .low)) (r .speeds) ≡ false) →
-      words t (r .speeds) ++ value-in (said-at t (run-of t r) v) ≡ words t (feeding t (flywheel v) r .speeds)
+      words t (r .speeds) ++ said-at t (run-of t r) v ≡ words t (feeding t (flywheel v) r .speeds)
   fed-words r v h = elim (tested (r .on)) [
-    | failed e ↦ rw e (nothing-more (words t (r .speeds)))
+    | failed e ↦ rw e (append-nil (words t (r .speeds)))
     | passed e ↦ rw e (words-more (r .speeds) v (h e))
   ]
-    where
-      nothing-more : (s : List ℕ) → s ++ [] ≡ s
-      nothing-more [] = refl
-      nothing-more (x ∷ s) = ap (λ (l : List ℕ). x ∷ l) (nothing-more s)
 
   -- what is said at one more speed, from the last run
   pub said-so : (r : Led) (v : ℕ) → said-at t (run-of t r) v ≡ said-by t r v

@@ -54,6 +54,6 @@ pub coasting-holds : map (found in-turn) coasting ≡ map told coasting
 unfolding spelled number has op-code fit judged setting opened connects disconnects indicates confirms writes feeds run
 coasting-holds = refl
 
-pub ends-or-not-holds : found each ends-or-not ≡ told ends-or-not
+pub ends-or-not-holds : map (found each) ends-or-not ≡ map told ends-or-not
 unfolding spelled number has op-code fit judged setting opened connects disconnects indicates confirms writes feeds run
 ends-or-not-holds = refl

@@ -2,7 +2,7 @@
 use Prim.Native.Nat.{ℕ, suc, _≤_}
 use mathlib.Core.Path.{_≡_}
 use mathlib.Core.Bool.{Bool, cond, not, _||_}
-use mathlib.Core.List.{List, [], _∷_, _++_}
+use mathlib.Core.List.{List, [], _∷_}
 use lib.Dec.{eqb, ltb}
 use lib.ListN.{length, getD, drop}
 use lib.Signed.{ltZ}
@@ -67,7 +67,8 @@ reversed r =
     (ltZ (r .resistance .greatest) (r .resistance .least) ||
     (ltZ (r .power .greatest) (r .power .least) || ltb (r .«heart_rate» .greatest) (r .«heart_rate» .least))))
 
--- "opening a machine 22, 16"; "22: Feature value not 8 octets"; "16 also when the low target is not below the high one": the refusal number of an opening, 0 if it is not refused
+-- "opening a machine 22, 16"; "22: Feature value not 8 octets"; "16 also when the low target is not below the high one": the refusal number of an opening,
+-- 0 if it is not refused
 abbrev pub refusal-by : Opening → ℕ
 refusal-by o = cond (not (eqb (length (o .feature)) 8)) 22 (cond (reversed (o .ranges) || not (ltb (o .speeds .low) (o .speeds .high))) 16 0)
 

@@ -164,10 +164,9 @@ pub record Unchanged (k : Console) (x : Answer Sent × Console) : Type 0 where
 abbrev pub ByAnother : Console → Call → Type 0
 ByAnother k q = (c : ℕ) → k .machine .holder ≡ Client c → by q ≡ Client c → ⊥
 
--- a machine before and after a call that the holder did not make: settings, mode and what was fixed at opening stay, and the run stays unless no
--- client made the call, which feeds a speed. The holder stays, except
--- that a 00 that succeeds gives control to its client if nobody had it: "not the holder (but for 00), 05". (A disconnect of such a client
--- changes who is connected, its indications and its awaited response, and nothing else.)
+-- a machine before and after a call that the holder did not make: settings, mode and what was fixed at opening stay, and so does the run, unless a speed
+-- is fed, which no client does. The holder stays, except that a 00 that succeeds gives control to its client if nobody had it: "not the holder (but for
+-- 00), 05". (A disconnect of such a client changes who is connected, its indications and its awaited response, and nothing else.)
 pub record Spared (m : Machine) (w : Who) (n : Machine) : Type 0 where
   pub same-settings : n .settings ≡ m .settings
   pub same-mode : n .mode ≡ m .mode

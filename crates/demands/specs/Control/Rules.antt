@@ -1,4 +1,5 @@
--- Document 01's sentences on the op codes, and W-201's on 13, as rules on their numbers. The theorems compare them with the table of op codes, for each octet from 0 to 255.
+-- Document 01's sentences on the op codes, and W-201's on 13, as rules on their numbers. The theorems compare them with the table of op codes, for each
+-- octet from 0 to 255.
 use Prim.Native.Nat.{ℕ, zero, suc, _+_, _-_}
 use mathlib.Core.Bool.{Bool, true, false, cond, not, _&&_, _||_}
 use mathlib.Core.List.{List, [], _∷_, _++_, map}
@@ -166,7 +167,7 @@ module _ (s : Setup) (h : Who) (m : Mode) (going : Bool) (c o : ℕ) (p : List �
       cond (eqb o 0x00) (another h c)
       (cond (eqb o 0x07) (running m)
       (cond (eqb o 0x08) (cond (eqb (number 1 p) 1) (stopped m) (not (running m)))
-      (cond (eqb o 0x13) (eqb (number 1 p) 1 && going) false)))
+      (cond (eqb o 0x13) (going && eqb (number 1 p) 1) false)))
 
   -- "unsupported op code, result 02; not the holder (but for 00), 05; wrong length, value outside its range or 08 with neither 1 nor 2, result
   -- 03; then 04 when ..; else 01"

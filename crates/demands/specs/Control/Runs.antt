@@ -5,7 +5,7 @@ use mathlib.Core.Bool.{Bool, true, false, cond, not, _&&_, _||_}
 use mathlib.Core.List.{List, [], _∷_, _++_}
 use lib.Dec.{eqb, leb}
 use lib.ListN.{getD}
-use Rattle.record.specs.Answer.{Answer, given}
+use Rattle.record.specs.Answer.{given}
 use Rattle.record.specs.Octets.{number}
 use Rattle.service.specs.declared.control.Console.{Console}
 use Rattle.service.specs.declared.control.machine.Who.{Who}
@@ -13,11 +13,11 @@ use Rattle.service.specs.declared.control.machine.Who.the-variants.{Nobody, Cli
 use Rattle.service.specs.declared.control.spin_down.TargetSpeeds.{TargetSpeeds}
 use Rattle.service.specs.declared.control.spin_down.Run.{Run}
 use Rattle.service.specs.declared.control.spin_down.Run.the-variants.{Off, Quiet, Warned}
-use Rattle.service.specs.Control.Replies.{Sent, status-of}
+use Rattle.service.specs.Control.Machine.{someone}
+use Rattle.service.specs.Control.Replies.{status-of}
 use Rattle.service.specs.Control.Calls.{Opening}
 use Rattle.demands.specs.Control.Point.{Call, connect, disconnect, confirm, indicate, write, flywheel, Point, Event, run}
 use Rattle.demands.specs.Control.Laws.{by, parameter, succeeded, ends, any, holder-by}
-use Rattle.demands.specs.Control.History.{accepted}
 
 -- "parameter 1 starts, 2 ignores": a start that succeeded, and an ignore that did
 abbrev pub started : Event → Bool
@@ -45,7 +45,7 @@ abbrev pub at-most : ℕ → ℕ → Bool
 at-most most v = leb v most
 
 module _ (t : TargetSpeeds) where
-  -- a speed is fed in the run that is on; "at or below the low speed .. the run is over"
+  -- a speed is fed in the run that is on, whatever is answered; "at or below the low speed .. the run is over"
   abbrev pub feeding : Call → Led → Led
   feeding (connect c) r = r
   feeding (disconnect c) r = r
@@ -58,8 +58,7 @@ module _ (t : TargetSpeeds) where
   abbrev pub next-led : Who → Event → Led → Led
   next-led w e before =
       cond (started e) (record { on = true; starter = by (e .call); speeds = [] })
-      (cond (ended w e) (record { on = false; starter = before .starter; speeds = before .speeds })
-      (cond (accepted e) (feeding (e .call) before) before))
+      (cond (ended w e) (record { on = false; starter = before .starter; speeds = before .speeds }) (feeding (e .call) before))
 
   unfoldable pub led-by : List Event → Led
   led-by [] = record { on = false; starter = Nobody; speeds = [] }
@@ -82,23 +81,24 @@ module _ (t : TargetSpeeds) where
   first-above (v ∷ vs) = cond (at-most (t .high) v) (not (at-most (t .low) v)) (first-above vs)
 
   abbrev pub words : List ℕ → List ℕ
-  words vs = cond (first-above vs) (4 ∷ []) [] ++ cond (any (at-most (t .low)) vs) (2 ∷ []) []
+  words vs = cond (first-above vs) (0x14 ∷ 4 ∷ []) [] ++ cond (any (at-most (t .low)) vs) (0x14 ∷ 2 ∷ []) []
 
--- "The status is 14 with 2 success or 4 stop pedalling": the value of such status octets, if they are
-abbrev pub value-in : List ℕ → List ℕ
-value-in s = cond (eqb (getD s 0 0) 0x14) (getD s 1 0 ∷ []) []
+-- "The status is 14 with 2 success or 4 stop pedalling": what an event says of spin down, all status octets at a speed, which no client feeds, and of
+-- a client's call those that begin with 14
+abbrev pub said-in : Event → List ℕ
+said-in e = let s : List ℕ = status-of (e .answer) in cond (someone (by (e .call)) && not (eqb (getD s 0 0) 0x14)) [] s
 
--- what has been said with 14 since the last start that succeeded, the first value first, in or after its run
+-- what has been said from the last start that succeeded on, at the start itself, in its run and after it, the first octets first
 unfoldable pub spoken : List Event → List ℕ
 spoken [] = []
-spoken (e ∷ past) = let before : List ℕ = spoken past in cond (started e) [] (before ++ value-in (status-of (e .answer)))
+spoken (e ∷ past) = let before : List ℕ = spoken past in cond (started e) [] before ++ said-in e
 
--- nothing, 4, 2, or 4 then 2
+-- nothing, 4, 2, or 4 then 2, each after 14
 pub data OneOfFour : List ℕ → Type 0 where
   nothing : OneOfFour []
-  four : OneOfFour (4 ∷ [])
-  two : OneOfFour (2 ∷ [])
-  four-then-two : OneOfFour (4 ∷ 2 ∷ [])
+  four : OneOfFour (0x14 ∷ 4 ∷ [])
+  two : OneOfFour (0x14 ∷ 2 ∷ [])
+  four-then-two : OneOfFour (0x14 ∷ 4 ∷ 0x14 ∷ 2 ∷ [])
 
 -- ---- the laws
 

@@ -1,5 +1,6 @@
 -- "unsupported op code, result 02; not the holder (but for 00), 05; wrong length, value outside its range or 08 with neither 1 nor 2, result 03;
--- then 04 when 00 finds another holder, 07 finds running, 08 with 1 finds stopped, or 08 with 2 finds anything but running; else 01." W-201: "result 03 for neither 1 nor 2, 04 for a start during a run".
+-- then 04 when 00 finds another holder, 07 finds running, 08 with 1 finds stopped, or 08 with 2 finds anything but running; else 01." W-201: "result 03
+-- for neither 1 nor 2, 04 for a start during a run".
 use Prim.Native.Nat.{ℕ}
 use mathlib.Core.Bool.{Bool, true, false, cond, not, _&&_}
 use mathlib.Core.List.{List}
@@ -44,7 +45,8 @@ succeeds InvalidParameter = false
 succeeds OperationFailed = false
 succeeds ControlNotPermitted = false
 
--- "00, 01, 07, 08 are always supported; 02 to 06 need target bits 0 to 4, 09 to 12 need 5 to 14, 14 needs 16."
+-- "00, 01, 07, 08 are always supported; 02 to 06 need target bits 0 to 4, 09 to 12 need 5 to 14, 14 needs 16."; W-201: "Op code 13 becomes supported
+-- with target bit 15"
 abbrev pub supports : Feature → Need → Bool
 supports f Always = true
 supports f (Bit b) = has-named (f .targets) b
@@ -62,7 +64,7 @@ takes SpinsDown = false
 abbrev pub controls : Who → ℕ → Act → Bool
 controls w c a = cond (takes a) true (is w c)
 
--- the opposite of "wrong length, value outside its range or 08 with neither 1 nor 2"
+-- the opposite of "wrong length, value outside its range or 08 with neither 1 nor 2"; W-201, of 13: "result 03 for neither 1 nor 2"
 unfoldable pub fit : Ranges → OpCode → List ℕ → Bool
 fit ranges x p = eqb (length p) (size (x .parameter)) && allowed ranges (x .bound) p
 

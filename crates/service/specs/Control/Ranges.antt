@@ -13,7 +13,8 @@ use Rattle.service.specs.declared.control.op_codes.Bound.the-variants.{F
 abbrev pub in-range : ℤ → ℤ → ℤ → Bool
 in-range least greatest x = leZ least x && leZ x greatest
 
--- the number that is bounded: "02 speed u16, 03 inclination s16, 04 resistance u8, 05 power s16, 06 heart rate u8", "08 stop (1) or pause (2)"
+-- the number that is bounded: "02 speed u16, 03 inclination s16, 04 resistance u8, 05 power s16, 06 heart rate u8", "08 stop (1) or pause (2)"; W-201:
+-- "parameter 1 starts, 2 ignores"
 abbrev pub value : Bound → List ℕ → ℤ
 value Free p = pos 0
 value Speed p = pos (number 2 p)
@@ -33,7 +34,7 @@ bounded r Power x = in-range (r .power .least) (r .power .greatest) x
 bounded r HeartRate x = in-range (pos (r .«heart_rate» .least)) (pos (r .«heart_rate» .greatest)) x
 bounded r OneOrTwo x = in-range (pos 1) (pos 2) x
 
--- the opposite of "value outside its range or 08 with neither 1 nor 2"
+-- the opposite of "value outside its range or 08 with neither 1 nor 2", and of W-201's "result 03 for neither 1 nor 2"
 abbrev pub allowed : Ranges → Bound → List ℕ → Bool
 allowed r b p = bounded r b (value b p)
 

@@ -1,4 +1,4 @@
--- Lines of the op codes, by computation: document 01's numbers.
+-- Lines of the op codes, by computation: document 01's numbers, and W-201's.
 use mathlib.Core.Path.{_≡_, refl}
 use Prim.Native.Nat.{ℕ}
 use mathlib.Core.Bool.{Bool, true, false}
@@ -6,6 +6,7 @@ use mathlib.Core.List.{List, [], _∷_, _++_}
 use Rattle.record.specs.Octets.{spelled, number}
 use Rattle.record.specs.declared.layout.Width.{Width}
 use Rattle.record.specs.declared.layout.Width.the-variants.{U8, U16, U24, S16}
+use Rattle.service.specs.declared.control.machine.Machine.{Machine}
 use Rattle.service.specs.declared.control.op_codes.Lookup.{Lookup}
 use Rattle.service.specs.declared.control.op_codes.Lookup.the-variants.{Known, Unknown}
 use Rattle.service.specs.Control.Parameters.{widths, together}
@@ -20,7 +21,7 @@ use Rattle.service.specs.declared.control.spin_down.Run.{Run}
 use Rattle.service.specs.declared.control.spin_down.Run.the-variants.{Off, Quiet}
 use Rattle.service.specs.Control.OpCodes.{known, op-code}
 use Rattle.service.specs.Control.SpinDown.{on, said-at, run-at}
-use Rattle.service.specs.Control.Effects.{response-octets, success-followed, success-status}
+use Rattle.service.specs.Control.Effects.{response-octets, success-followed, success-status, setting}
 
 abbrev parameter : Lookup → List Width
 parameter (Known x) = widths (x .parameter)
@@ -49,7 +50,7 @@ pub statuses :
 unfolding op-code
 statuses = (refl, refl, refl, refl, refl, refl, refl)
 
--- W-201: "Op code 13 becomes supported with target bit 15: parameter 1 starts, 2 ignores.", "a start or an ignore gives none"; no op code past 14 is known
+-- W-201: "Op code 13 becomes supported with target bit 15: parameter 1 starts, 2 ignores.", "a start or an ignore gives none"; 15 is not known
 pub spin-down :
     (op-code 0x13 ≡ Known (known (One U8) (Bit 15) OneOrTwo Silent SpinsDown)) ×
     (parameter (op-code 0x13) ≡ U8 ∷ []) ×
@@ -59,7 +60,13 @@ pub spin-down :
 unfolding op-code
 spin-down = (refl, refl, refl, refl, refl)
 
--- "A successful start answers 80 13 01 followed by a low and a high target speed, u16 each": 1,000 is 03E8 hex and 2,000 is 07D0 hex; nothing follows for an ignore
+-- its octet is no setting: none of a machine's octets is read for it
+pub no-setting : (m : Machine) → setting m 0x13 ≡ []
+unfolding op-code setting
+no-setting m = refl
+
+-- "A successful start answers 80 13 01 followed by a low and a high target speed, u16 each": 1,000 is 03E8 hex and 2,000 is 07D0 hex; nothing follows for
+-- an ignore
 abbrev speeds : TargetSpeeds
 speeds = record { low = 1000; high = 2000 }
 

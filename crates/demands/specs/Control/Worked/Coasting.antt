@@ -3,6 +3,7 @@ use Prim.Native.Nat.{ℕ}
 use mathlib.Core.Bool.{true, false}
 use mathlib.Core.List.{List, [], _∷_, _++_}
 use Rattle.record.specs.Answer.{Answer, refused}
+use Rattle.service.specs.declared.control.machine.Mode.{Mode}
 use Rattle.service.specs.declared.control.machine.Mode.the-variants.{Stopped, Running, Paused}
 use Rattle.service.specs.declared.control.machine.Who.{Who}
 use Rattle.service.specs.declared.control.machine.Who.the-variants.{Nobody, Client}
@@ -71,28 +72,39 @@ again =
     at-due : ℕ → List ℕ → Run → Row
     at-due v s r = row (flywheel v) (sent [] s) (due r)
 
--- "Reset, disconnect of the holder or an ignore ends a run without a status of its own": each from a run that has said 4; and what does not end it: a
--- start, stop or pause of the machine, indications, a target, another client's calls
-abbrev pub both : Run → Who → State
-both r w = in-run r (state Stopped (Client 0) w (0 ∷ 1 ∷ []) (0 ∷ 1 ∷ []) [])
+-- client 0 holds control of a machine in this mode, with this run; client 1 is connected too
+abbrev pub both : Mode → Run → Who → State
+both m r w = in-run r (state m (Client 0) w (0 ∷ 1 ∷ []) (0 ∷ 1 ∷ []) [])
 
-abbrev pub ends-or-not : Table
-ends-or-not =
-    table (able fair) (starts ++ flywheel 2000 ∷ ready 1) (sent [] []) (both Warned Nobody)
+-- "Reset, disconnect of the holder or an ignore ends a run without a status of its own"; and what does not end it: a second start, 13 with 3 or with two
+-- octets, a stop or pause of the machine, its start, which fails, a target, 00, indications, a refusal, and another client's calls
+abbrev pub lasting : Run → List Call → Answer Sent → Table
+lasting r speeds a =
+    table (able fair) (holds 0 ++ asks 0 (0x07 ∷ []) ++ ready 1 ++ asks 0 (0x13 ∷ 1 ∷ []) ++ speeds) a (both Running r Nobody)
     (row (write 0 (0x01 ∷ [])) (sent (0x80 ∷ 0x01 ∷ 0x01 ∷ []) (0x01 ∷ []))
     (state Stopped Nobody (Client 0) (0 ∷ 1 ∷ []) (0 ∷ 1 ∷ []) []) ∷
-    row (disconnect 0) (sent [] []) (state Stopped Nobody Nobody (1 ∷ []) (1 ∷ []) []) ∷
-    row (write 0 (0x13 ∷ 2 ∷ [])) (sent (0x80 ∷ 0x13 ∷ 0x01 ∷ []) []) (both Off (Client 0)) ∷
-    row (disconnect 1) (sent [] []) (in-run Warned (state Stopped (Client 0) Nobody (0 ∷ []) (0 ∷ []) [])) ∷
-    row (write 0 (0x07 ∷ [])) (sent (0x80 ∷ 0x07 ∷ 0x01 ∷ []) (0x04 ∷ []))
-    (in-run Warned (state Running (Client 0) (Client 0) (0 ∷ 1 ∷ []) (0 ∷ 1 ∷ []) [])) ∷
+    row (disconnect 0) (sent [] []) (state Running Nobody Nobody (1 ∷ []) (1 ∷ []) []) ∷
+    row (write 0 (0x13 ∷ 2 ∷ [])) (sent (0x80 ∷ 0x13 ∷ 0x01 ∷ []) []) (both Running Off (Client 0)) ∷
+    row (write 0 (0x13 ∷ 1 ∷ [])) (sent (0x80 ∷ 0x13 ∷ 0x04 ∷ []) []) (both Running r (Client 0)) ∷
+    row (write 0 (0x13 ∷ 3 ∷ [])) (sent (0x80 ∷ 0x13 ∷ 0x03 ∷ []) []) (both Running r (Client 0)) ∷
+    row (write 0 (0x13 ∷ 1 ∷ 0 ∷ [])) (sent (0x80 ∷ 0x13 ∷ 0x03 ∷ []) []) (both Running r (Client 0)) ∷
+    row (write 0 (0x08 ∷ 1 ∷ [])) (sent (0x80 ∷ 0x08 ∷ 0x01 ∷ []) (0x02 ∷ 1 ∷ [])) (both Stopped r (Client 0)) ∷
+    row (write 0 (0x08 ∷ 2 ∷ [])) (sent (0x80 ∷ 0x08 ∷ 0x01 ∷ []) (0x02 ∷ 2 ∷ [])) (both Paused r (Client 0)) ∷
+    row (write 0 (0x07 ∷ [])) (sent (0x80 ∷ 0x07 ∷ 0x04 ∷ []) []) (both Running r (Client 0)) ∷
     row (write 0 (0x02 ∷ 0xe8 ∷ 0x03 ∷ [])) (sent (0x80 ∷ 0x02 ∷ 0x01 ∷ []) (0x05 ∷ 0xe8 ∷ 0x03 ∷ []))
-    (in-run Warned (state Stopped (Client 0) (Client 0) (0 ∷ 1 ∷ []) (0 ∷ 1 ∷ []) ((0x02, 0xe8 ∷ 0x03 ∷ []) ∷ []))) ∷
-    row (write 0 (0x00 ∷ [])) (sent (0x80 ∷ 0x00 ∷ 0x01 ∷ []) []) (both Warned (Client 0)) ∷
-    row (indicate 0 false) (sent [] []) (in-run Warned (state Stopped (Client 0) Nobody (0 ∷ 1 ∷ []) (1 ∷ []) [])) ∷
-    row (write 1 (0x13 ∷ 2 ∷ [])) (sent (0x80 ∷ 0x13 ∷ 0x05 ∷ []) []) (both Warned (Client 1)) ∷
-    row (write 1 (0x00 ∷ [])) (sent (0x80 ∷ 0x00 ∷ 0x04 ∷ []) []) (both Warned (Client 1)) ∷
-    row (write 0 []) (refused 18) (both Warned Nobody) ∷ [])
+    (in-run r (state Running (Client 0) (Client 0) (0 ∷ 1 ∷ []) (0 ∷ 1 ∷ []) ((0x02, 0xe8 ∷ 0x03 ∷ []) ∷ []))) ∷
+    row (write 0 (0x00 ∷ [])) (sent (0x80 ∷ 0x00 ∷ 0x01 ∷ []) []) (both Running r (Client 0)) ∷
+    row (indicate 0 false) (sent [] []) (in-run r (state Running (Client 0) Nobody (0 ∷ 1 ∷ []) (1 ∷ []) [])) ∷
+    row (write 0 []) (refused 18) (both Running r Nobody) ∷
+    row (disconnect 1) (sent [] []) (in-run r (state Running (Client 0) Nobody (0 ∷ []) (0 ∷ []) [])) ∷
+    row (write 1 (0x13 ∷ 1 ∷ [])) (sent (0x80 ∷ 0x13 ∷ 0x05 ∷ []) []) (both Running r (Client 1)) ∷
+    row (write 1 (0x13 ∷ 2 ∷ [])) (sent (0x80 ∷ 0x13 ∷ 0x05 ∷ []) []) (both Running r (Client 1)) ∷
+    row (write 1 (0x01 ∷ [])) (sent (0x80 ∷ 0x01 ∷ 0x05 ∷ []) []) (both Running r (Client 1)) ∷
+    row (write 1 (0x00 ∷ [])) (sent (0x80 ∷ 0x00 ∷ 0x04 ∷ []) []) (both Running r (Client 1)) ∷
+    row (disconnect 2) (refused 17) (both Running r Nobody) ∷ [])
+
+abbrev pub ends-or-not : List Table
+ends-or-not = lasting Quiet [] (sent [] []) ∷ lasting Warned (flywheel 2000 ∷ []) (sent [] (0x14 ∷ 4 ∷ [])) ∷ []
 
 -- after the holder's disconnect nothing is said, also when it is back and holds control again
 abbrev pub left : Table
@@ -105,6 +117,6 @@ left =
     row (confirm 0) (sent [] []) (alone Off) ∷
     at 1000 [] Off ∷ [])
 
--- each row from the state that the row before it leads to, but for `ends-or-not`, where each is from the state above them
+-- each row from the state that the row before it leads to; those of `ends-or-not`, each from the state above them
 abbrev pub coasting : List Table
 coasting = falling ∷ at-once ∷ again ∷ left ∷ []

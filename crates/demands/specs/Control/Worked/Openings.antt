@@ -1,4 +1,5 @@
--- Opening a machine: "22: Feature value not 8 octets", "16: some range has least above greatest", "opening a machine 22, 16".
+-- Opening a machine: "22: Feature value not 8 octets", "16: some range has least above greatest", "opening a machine 22, 16"; W-201: "16 also when the
+-- low target is not below the high one".
 use Prim.Native.Nat.{ℕ}
 use mathlib.Core.List.{List, [], _∷_, map}
 use lib.IntN.{pos, negsuc}
@@ -25,7 +26,7 @@ with-octets n r = opening (replicate n 0) r speeds
 abbrev pub fair : Ranges
 fair = between 100 2000 (negsuc 99) (pos 150) (pos 5) (pos 50) (negsuc 499) (pos 1200) 60 200
 
--- one with these target speeds: W-201, "16 also when the low target is not below the high one"
+-- one with n Feature octets and these target speeds
 abbrev pub coasting : ℕ → ℕ → ℕ → Opening
 coasting n low high = opening (replicate n 0) fair (record { low = low; high = high })
 
@@ -44,7 +45,8 @@ infix 5 _opens_
 abbrev pub at-first : Answer State
 at-first = given (state Stopped Nobody Nobody [] [] [])
 
--- each range alone reversed, by one and by sign, with all target settings, speed's with none too; ranges of one number; the Feature value's length; low and high
+-- each range alone reversed, by one and by sign, with all target settings, speed's with none too; ranges of one number; the Feature value's length; low
+-- and high, with all target settings and with none
 abbrev pub openings : List Case
 openings =
     (able fair opens at-first) ∷
@@ -70,6 +72,7 @@ openings =
     (coasting 8 0 1 opens at-first) ∷
     (coasting 8 0 0 opens refused 16) ∷
     (coasting 8 65535 0 opens refused 16) ∷
+    (opening (replicate 8 0xff) fair (record { low = 1000; high = 1000 }) opens refused 16) ∷
     (coasting 7 1000 1000 opens refused 22) ∷ []
 
 abbrev pub opened-to : List (Answer State)
