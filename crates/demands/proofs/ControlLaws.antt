@@ -12,9 +12,11 @@ pub mod Runs
 pub mod Alive
 pub mod Cases
 pub mod Worked
+pub mod Increments
 pub mod Rules
 pub mod Answered
 pub mod Demanded
+pub mod Targets
 pub mod Meets
 pub mod Liars
 pub mod Coasters

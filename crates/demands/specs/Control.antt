@@ -7,3 +7,4 @@ pub mod Cases
 pub mod Worked
 pub mod Rules
 pub mod Answered
+pub mod Increments

@@ -32,7 +32,7 @@ use Rattle.demands.specs.Control.Laws.{holder-by}
 use Rattle.demands.specs.Control.History.{mode-by, awaited-by, connected-by, indicating-by}
 use Rattle.demands.specs.Control.Runs.{Led, led-by, run-of}
 use Rattle.demands.specs.Control.Rules as rule
-use Rattle.demands.specs.Control.Answered.{response-by, answer-by, OctetIn, OctetsIn, reversed, refusal-by, AnswersByHistory}
+use Rattle.demands.specs.Control.Answered.{response-by, answer-by, OctetIn, OctetsIn, reversed, no-step, refusal-by, AnswersByHistory}
 use Rattle.demands.proofs.ControlLaws.Rules.{followed-so, status-so, result-so}
 use Rattle.demands.proofs.ControlLaws.Spoken.{on-led, said-so}
 use Rattle.demands.proofs.ControlLaws.Runs.{run-by-history}
@@ -149,23 +149,33 @@ not-leZ (pos a) (negsuc b) = refl
 not-leZ (negsuc a) (pos b) = refl
 not-leZ (negsuc a) (negsuc b) = not-le b a
 
-not-all : (a b c d e : Bool) → not (a && (b && (c && (d && e)))) ≡ (not a || (not b || (not c || (not d || not e))))
-not-all false b c d e = refl
-not-all true false c d e = refl
-not-all true true false d e = refl
-not-all true true true false e = refl
-not-all true true true true e = refl
+not-both : (a z : Bool) → not (a && not z) ≡ (not a || z)
+not-both false z = refl
+not-both true false = refl
+not-both true true = refl
 
-reversed-so : (r : Ranges) → not (are-ranges r) ≡ reversed r
-reversed-so r =
-    not-all (leb (r .speed .least) (r .speed .greatest)) (leZ (r .inclination .least) (r .inclination .greatest))
-    (leZ (r .resistance .least) (r .resistance .greatest)) (leZ (r .power .least) (r .power .greatest))
-    (leb (r .«heart_rate» .least) (r .«heart_rate» .greatest)) ∙
+or-true : (a : Bool) → true ≡ (a || true)
+or-true false = refl
+or-true true = refl
+
+-- one more range that is reversed or has no step
+one-more : (a z b rest all : Bool) → not b ≡ (rest || all) → not ((a && not z) && b) ≡ ((not a || rest) || (z || all))
+one-more false z b rest all h = refl
+one-more true false b rest all h = h
+one-more true true b rest all h = or-true rest
+
+unusable-so : (r : Ranges) → not (are-ranges r) ≡ (reversed r || no-step r)
+unusable-so r =
+    one-more (leb (r .speed .least) (r .speed .greatest)) (eqb (r .speed .increment) 0) _ _ _
+    (one-more (leZ (r .inclination .least) (r .inclination .greatest)) (eqb (r .inclination .increment) 0) _ _ _
+    (one-more (leZ (r .resistance .least) (r .resistance .greatest)) (eqb (r .resistance .increment) 0) _ _ _
+    (one-more (leZ (r .power .least) (r .power .greatest)) (eqb (r .power .increment) 0) _ _ _
+    (not-both (leb (r .«heart_rate» .least) (r .«heart_rate» .greatest)) (eqb (r .«heart_rate» .increment) 0))))) ∙
     (λ i.
-    not-le (r .speed .least) (r .speed .greatest) i ||
+    (not-le (r .speed .least) (r .speed .greatest) i ||
     (not-leZ (r .inclination .least) (r .inclination .greatest) i ||
     (not-leZ (r .resistance .least) (r .resistance .greatest) i ||
-    (not-leZ (r .power .least) (r .power .greatest) i || not-le (r .«heart_rate» .least) (r .«heart_rate» .greatest) i))))
+    (not-leZ (r .power .least) (r .power .greatest) i || not-le (r .«heart_rate» .least) (r .«heart_rate» .greatest) i)))) || no-step r)
 
 -- an opening is refused with the number that the rule says, or gives a console
 data Outcome (o : Opening) : Type 0 where
@@ -177,12 +187,12 @@ unfolding opened
 outcome o = elim (tested (eqb (length (o .feature)) 8)) [
   | failed e ↦ refuses-so 21 (rw e) (rw e)
   | passed e ↦ elim (tested (are-ranges (o .ranges))) [
-    | failed u ↦ refuses-so 15 (rw (e, ← reversed-so (o .ranges), u)) (rw (e, u))
+    | failed u ↦ refuses-so 15 (rw (e, ← unusable-so (o .ranges), u)) (rw (e, u))
     | passed u ↦ elim (tested (in-order (o .speeds))) [
       | passed v ↦
           opens-so (first (setup-of (named (words (o .feature))) o))
-          (rw (e, ← reversed-so (o .ranges), u, v)) (rw (e, u, v))
-      | failed v ↦ refuses-so 15 (rw (e, ← reversed-so (o .ranges), u, v)) (rw (e, u, v))
+          (rw (e, ← unusable-so (o .ranges), u, v)) (rw (e, u, v))
+      | failed v ↦ refuses-so 15 (rw (e, ← unusable-so (o .ranges), u, v)) (rw (e, u, v))
     ]
   ]
 ]

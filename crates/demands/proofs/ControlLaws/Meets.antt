@@ -17,7 +17,7 @@ use Rattle.service.specs.Control.Replies.{Sent, sent}
 use Rattle.service.specs.Control.Calls.{Opening, opened, connects, indicates, writes}
 use Rattle.demands.specs.Control.Point.{Call, connect, disconnect, confirm, indicate, write, flywheel, Point, service, Event, event, latest, step, run, Answers}
 use Rattle.demands.specs.Control.Laws.{result-in}
-use Rattle.demands.specs.Control.Cases.{speeds}
+use Rattle.demands.specs.Control.Cases.{ranges, speeds}
 
 -- ---- how to show it for code: its states are read as consoles, and each call changes the console that its state is read as
 
@@ -72,12 +72,12 @@ module _ {S R : Type 0} (p : Point S) (r : Point R) (a : Answers p) (b : Answers
 
 -- ---- wrong ones
 
--- a machine with no target setting, every range 0 to 0, and target speeds 1,000 and 2,000
+-- a machine with no target setting, the ranges of the cases, and target speeds 1,000 and 2,000
 abbrev pub plain : Opening
-plain = record { feature = 0 ∷ 0 ∷ 0 ∷ 0 ∷ 0 ∷ 0 ∷ 0 ∷ 0 ∷ []; ranges = closed .machine .setup .ranges; speeds = speeds }
+plain = record { feature = 0 ∷ 0 ∷ 0 ∷ 0 ∷ 0 ∷ 0 ∷ 0 ∷ 0 ∷ []; ranges = ranges; speeds = speeds }
 
 abbrev pub plain-console : Console
-plain-console = first (record { feature = closed .machine .setup .feature; ranges = closed .machine .setup .ranges; speeds = speeds })
+plain-console = first (record { feature = closed .machine .setup .feature; ranges = ranges; speeds = speeds })
 
 pub opens-so : opened plain ≡ given plain-console
 unfolding opened number

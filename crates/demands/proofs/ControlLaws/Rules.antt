@@ -5,10 +5,11 @@ use mathlib.Core.Bool.{Bool, true, false, cond, not, _&&_, _||_}
 use mathlib.Core.List.{List, [], _∷_, map}
 use native.Mathlib.Omega.{arith}
 use lib.Dec.{eqb}
+use lib.IntN.{pos}
 use lib.ListN.{length, getD, drop}
 use Rattle.record.specs.declared.layout.Width.{Width}
 use Rattle.record.specs.declared.feature.Feature.{Feature}
-use Rattle.record.specs.Octets.{number}
+use Rattle.record.specs.Octets.{number, signed}
 use Rattle.record.proofs.Tests.{passed, failed, tested, all}
 use Rattle.service.specs.declared.control.ranges.Ranges.{Ranges}
 use Rattle.service.specs.declared.control.machine.Machine.{Machine}
@@ -19,6 +20,7 @@ use Rattle.service.specs.declared.control.machine.Who.the-variants.{Nobody, Cli
 use Rattle.service.specs.declared.control.op_codes.Lookup.{Lookup}
 use Rattle.service.specs.declared.control.op_codes.Lookup.the-variants.{Known, Unknown}
 use Rattle.service.specs.Control.Ranges as ranges
+use Rattle.service.specs.Control.Ranges.{of-speed, of-signed, of-heart-rate, admits}
 use Rattle.service.specs.Control.OpCodes.{op-code}
 use Rattle.service.specs.Control.Parameters as parameters
 use Rattle.service.specs.declared.control.spin_down.TargetSpeeds.{TargetSpeeds}
@@ -29,6 +31,7 @@ use Rattle.service.specs.Control.Effects.{success-followed, success-status, suc
 use Rattle.demands.specs.Control.Laws.{stores}
 use Rattle.demands.specs.Control.Rules as rule
 use Rattle.demands.specs.Control.Rules.{counting, octets, picked, sum}
+use Rattle.demands.proofs.ControlLaws.Increments.{stepped-so}
 
 -- ---- what holds octet by octet
 
@@ -87,9 +90,25 @@ abbrev allowed-by : Ranges → Lookup → List ℕ → Bool
 allowed-by r (Known x) p = ranges.allowed r (x .bound) p
 allowed-by r Unknown p = true
 
-pub allowed-so : (r : Ranges) (p : List ℕ) (o : ℕ) → o ≤ 255 → allowed-by r (op-code o) p ≡ rule.allowed r o p
-unfolding op-code
-allowed-so r p = every (λ o. allowed-by r (op-code o) p) (λ o. rule.allowed r o p) refl
+-- which range is asked of each op code, and then that each admits what the rule allows
+module _ (r : Ranges) (p : List ℕ) where
+  abbrev asked-of : ℕ → Bool
+  asked-of o =
+      rule.asked o (admits (of-speed (r .speed)) (pos (number 2 p))) (admits (of-signed (r .inclination)) (signed (number 2 p)))
+      (admits (of-signed (r .resistance)) (pos (number 1 p))) (admits (of-signed (r .power)) (signed (number 2 p)))
+      (admits (of-heart-rate (r .«heart_rate»)) (pos (number 1 p))) (rule.to 1 2 (number 1 p))
+
+  asked-so : (o : ℕ) → o ≤ 255 → allowed-by r (op-code o) p ≡ asked-of o
+  unfolding op-code
+  asked-so = every (λ o. allowed-by r (op-code o) p) asked-of refl
+
+  pub allowed-so : (o : ℕ) → o ≤ 255 → allowed-by r (op-code o) p ≡ rule.allowed r o p
+  allowed-so o h =
+      asked-so o h ∙
+      (λ i.
+      rule.asked o (stepped-so (of-speed (r .speed)) (pos (number 2 p)) i) (stepped-so (of-signed (r .inclination)) (signed (number 2 p)) i)
+      (stepped-so (of-signed (r .resistance)) (pos (number 1 p)) i) (stepped-so (of-signed (r .power)) (signed (number 2 p)) i)
+      (stepped-so (of-heart-rate (r .«heart_rate»)) (pos (number 1 p)) i) (rule.to 1 2 (number 1 p)))
 
 -- ---- what success does
 

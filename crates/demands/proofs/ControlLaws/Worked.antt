@@ -17,6 +17,7 @@ use Rattle.demands.specs.Control.Worked.Courses.{courses, each-setting}
 use Rattle.demands.specs.Control.Worked.Needs.{needs}
 use Rattle.demands.specs.Control.Worked.Orders.{orders}
 use Rattle.demands.specs.Control.Worked.Coasting.{ends-or-not, coasting}
+use Rattle.demands.specs.Control.Worked.Stepped.{on-and-off, resets}
 
 pub modes-hold : map (found each) modes ≡ map told modes
 unfolding spelled number has op-code fit judged setting opened connects disconnects indicates confirms writes run
@@ -57,3 +58,11 @@ coasting-holds = refl
 pub ends-or-not-holds : map (found each) ends-or-not ≡ map told ends-or-not
 unfolding spelled number has op-code fit judged setting opened connects disconnects indicates confirms writes feeds run
 ends-or-not-holds = refl
+
+pub steps-hold : map (found each) on-and-off ≡ map told on-and-off
+unfolding spelled number has op-code fit judged setting opened connects disconnects indicates confirms writes run
+steps-hold = refl
+
+pub resets-hold : found in-turn resets ≡ told resets
+unfolding spelled number has op-code fit judged setting opened connects disconnects indicates confirms writes run
+resets-hold = refl

@@ -67,10 +67,18 @@ reversed r =
     (ltZ (r .resistance .greatest) (r .resistance .least) ||
     (ltZ (r .power .greatest) (r .power .least) || ltb (r .«heart_rate» .greatest) (r .«heart_rate» .least))))
 
+-- "16 also for an increment of 0"
+abbrev pub no-step : Ranges → Bool
+no-step r =
+    eqb (r .speed .increment) 0 ||
+    (eqb (r .inclination .increment) 0 ||
+    (eqb (r .resistance .increment) 0 || (eqb (r .power .increment) 0 || eqb (r .«heart_rate» .increment) 0)))
+
 -- "opening a machine 22, 16"; "22: Feature value not 8 octets"; "16 also when the low target is not below the high one": the refusal number of an opening,
 -- 0 if it is not refused
 abbrev pub refusal-by : Opening → ℕ
-refusal-by o = cond (not (eqb (length (o .feature)) 8)) 22 (cond (reversed (o .ranges) || not (ltb (o .speeds .low) (o .speeds .high))) 16 0)
+refusal-by o =
+    cond (not (eqb (length (o .feature)) 8)) 22 (cond ((reversed (o .ranges) || no-step (o .ranges)) || not (ltb (o .speeds .low) (o .speeds .high))) 16 0)
 
 -- a control point that refuses these openings and no others, and whose next answer, after every sequence of calls, is that of `answer-by`
 pub record AnswersByHistory {S : Type 0} (p : Point S) : Type 0 where

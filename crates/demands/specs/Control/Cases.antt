@@ -11,14 +11,14 @@ use Rattle.service.specs.Control.Replies.{Sent, sent}
 use Rattle.service.specs.Control.Calls.{opening, opened}
 use Rattle.demands.specs.Control.Point.{Call, connect, confirm, indicate, write, service, latest, run}
 
--- ranges, target speeds, and a machine with every target bit except 5, energy
+-- ranges whose increments are 1, target speeds, and a machine with every target bit except 5, energy
 abbrev pub ranges : Ranges
 ranges = record {
-  speed = record { least = 100; greatest = 2000 };
-  inclination = record { least = negsuc 99; greatest = pos 150 };
-  resistance = record { least = negsuc 19; greatest = pos 50 };
-  power = record { least = negsuc 32767; greatest = pos 32767 };
-  «heart_rate» = record { least = 60; greatest = 200 };
+  speed = record { least = 100; greatest = 2000; increment = 1 };
+  inclination = record { least = negsuc 99; greatest = pos 150; increment = 1 };
+  resistance = record { least = negsuc 19; greatest = pos 50; increment = 1 };
+  power = record { least = negsuc 32767; greatest = pos 32767; increment = 1 };
+  «heart_rate» = record { least = 60; greatest = 200; increment = 1 };
 }
 
 abbrev pub speeds : TargetSpeeds

@@ -1,10 +1,10 @@
--- Document 01's sentences on the op codes, and W-201's on 13, as rules on their numbers. The theorems compare them with the table of op codes, for each
+-- Document 01's sentences on the op codes, W-201's on 13 and W-206's on the steps, as rules on their numbers. The theorems compare them with the table of op codes, for each
 -- octet from 0 to 255.
-use Prim.Native.Nat.{ℕ, zero, suc, _+_, _-_}
+use Prim.Native.Nat.{ℕ, zero, suc, _+_, _-_, _*_, _/_}
 use mathlib.Core.Bool.{Bool, true, false, cond, not, _&&_, _||_}
 use mathlib.Core.List.{List, [], _∷_, _++_, map}
 use lib.Dec.{eqb, leb}
-use lib.IntN.{pos}
+use lib.IntN.{ℤ, pos, negsuc}
 use lib.ListN.{length, take, drop, replicate}
 use lib.Signed.{leZ}
 use Rattle.record.specs.declared.layout.Width.{Width}
@@ -97,16 +97,36 @@ size o =
     (cond (eqb o 0x11) 6
     (cond (storing o) 2 0))))))
 
+-- how far one number is above another, by their signs
+abbrev pub above : ℤ → ℤ → ℕ
+above (pos a) (pos b) = b - a
+above (pos a) (negsuc b) = 0
+above (negsuc a) (pos b) = b + suc a
+above (negsuc a) (negsuc b) = a - b
+
+-- "a multiple of the increment": the whole increments in a distance make it up
+abbrev pub whole : ℕ → ℕ → Bool
+whole increment d = eqb (d / increment * increment) d
+
+-- "A target is allowed when it is in the range and its distance from the least value is a multiple of the increment."
+abbrev pub stepped : ℤ → ℤ → ℕ → ℤ → Bool
+stepped least greatest increment x = leZ least x && leZ x greatest && whole increment (above least x)
+
+-- which of these is asked of an op code: of speed, inclination, resistance, power, heart rate, or of 08 and 13
+abbrev pub asked : ℕ → Bool → Bool → Bool → Bool → Bool → Bool → Bool
+asked o a b c d e f =
+    cond (eqb o 0x02) a (cond (eqb o 0x03) b (cond (eqb o 0x04) c (cond (eqb o 0x05) d (cond (eqb o 0x06) e (cond (among (0x08 ∷ 0x13 ∷ []) o) f true)))))
+
 -- the opposite of "value outside its range or 08 with neither 1 nor 2"; "Ranges (least, greatest, both allowed) exist for speed u16, inclination s16,
--- resistance s16, power s16, heart rate u8."; of 13, "result 03 for neither 1 nor 2"
+-- resistance s16, power s16, heart rate u8."; "result 03 also for a target off the steps"; of 13, "result 03 for neither 1 nor 2"
 abbrev pub allowed : Ranges → ℕ → List ℕ → Bool
 allowed r o p =
-    cond (eqb o 0x02) (to (r .speed .least) (r .speed .greatest) (number 2 p))
-    (cond (eqb o 0x03) (leZ (r .inclination .least) (signed (number 2 p)) && leZ (signed (number 2 p)) (r .inclination .greatest))
-    (cond (eqb o 0x04) (leZ (r .resistance .least) (pos (number 1 p)) && leZ (pos (number 1 p)) (r .resistance .greatest))
-    (cond (eqb o 0x05) (leZ (r .power .least) (signed (number 2 p)) && leZ (signed (number 2 p)) (r .power .greatest))
-    (cond (eqb o 0x06) (to (r .«heart_rate» .least) (r .«heart_rate» .greatest) (number 1 p))
-    (cond (among (0x08 ∷ 0x13 ∷ []) o) (to 1 2 (number 1 p)) true)))))
+    asked o (stepped (pos (r .speed .least)) (pos (r .speed .greatest)) (r .speed .increment) (pos (number 2 p)))
+    (stepped (r .inclination .least) (r .inclination .greatest) (r .inclination .increment) (signed (number 2 p)))
+    (stepped (r .resistance .least) (r .resistance .greatest) (r .resistance .increment) (pos (number 1 p)))
+    (stepped (r .power .least) (r .power .greatest) (r .power .increment) (signed (number 2 p)))
+    (stepped (pos (r .«heart_rate» .least)) (pos (r .«heart_rate» .greatest)) (r .«heart_rate» .increment) (pos (number 1 p)))
+    (to 1 2 (number 1 p))
 
 -- "00 gives control; 01 .. frees control": who holds it after a client's op code has succeeded
 abbrev pub holder : ℕ → ℕ → Who → Who
@@ -170,7 +190,7 @@ module _ (s : Setup) (h : Who) (m : Mode) (going : Bool) (c o : ℕ) (p : List �
       (cond (eqb o 0x13) (going && eqb (number 1 p) 1) false)))
 
   -- "unsupported op code, result 02; not the holder (but for 00), 05; wrong length, value outside its range or 08 with neither 1 nor 2, result
-  -- 03; then 04 when ..; else 01"
+  -- 03; then 04 when ..; else 01"; "result 03 also for a target off the steps"
   abbrev pub result : ℕ
   result =
       cond (not (supported (s .feature .targets) o)) 0x02

@@ -8,3 +8,4 @@ pub mod Courses
 pub mod Needs
 pub mod Orders
 pub mod Coasting
+pub mod Stepped

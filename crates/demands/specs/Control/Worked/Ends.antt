@@ -15,14 +15,14 @@ use Rattle.demands.specs.Control.Point.{write}
 use Rattle.demands.specs.Control.Cases.{speeds, asks, holds}
 use Rattle.demands.specs.Control.Worked.Seen.{State, state, Row, row, Table, table}
 
--- least and greatest of speed, inclination, resistance, power and heart rate
+-- least and greatest of speed, inclination, resistance, power and heart rate; each increment is 1
 abbrev pub between : ℕ → ℕ → ℤ → ℤ → ℤ → ℤ → ℤ → ℤ → ℕ → ℕ → Ranges
 between a b c d e f g h i j = record {
-  speed = record { least = a; greatest = b };
-  inclination = record { least = c; greatest = d };
-  resistance = record { least = e; greatest = f };
-  power = record { least = g; greatest = h };
-  «heart_rate» = record { least = i; greatest = j };
+  speed = record { least = a; greatest = b; increment = 1 };
+  inclination = record { least = c; greatest = d; increment = 1 };
+  resistance = record { least = e; greatest = f; increment = 1 };
+  power = record { least = g; greatest = h; increment = 1 };
+  «heart_rate» = record { least = i; greatest = j; increment = 1 };
 }
 
 -- a machine with every target setting

@@ -1,5 +1,5 @@
 -- Opening a machine: "22: Feature value not 8 octets", "16: some range has least above greatest", "opening a machine 22, 16"; W-201: "16 also when the
--- low target is not below the high one".
+-- low target is not below the high one"; W-206: "16 also for an increment of 0".
 use Prim.Native.Nat.{ℕ}
 use mathlib.Core.List.{List, [], _∷_, map}
 use lib.IntN.{pos, negsuc}
@@ -13,6 +13,7 @@ use Rattle.service.specs.Control.Calls.{Opening, opening, opened}
 use Rattle.demands.specs.Control.Cases.{speeds}
 use Rattle.demands.specs.Control.Worked.Seen.{State, state, state-of}
 use Rattle.demands.specs.Control.Worked.Ends.{between, able}
+use Rattle.demands.specs.Control.Worked.Stepped.{by}
 
 -- the state that an opening gives, unless it is refused
 abbrev pub opens-to : Answer Console → Answer State
@@ -46,7 +47,8 @@ abbrev pub at-first : Answer State
 at-first = given (state Stopped Nobody Nobody [] [] [])
 
 -- each range alone reversed, by one and by sign, with all target settings, speed's with none too; ranges of one number; the Feature value's length; low
--- and high, with all target settings and with none
+-- and high, with all target settings and with none; each increment alone 0, also in a range of one number, in a reversed one and with no target setting,
+-- and increments at their greatest
 abbrev pub openings : List Case
 openings =
     (able fair opens at-first) ∷
@@ -73,7 +75,18 @@ openings =
     (coasting 8 0 0 opens refused 16) ∷
     (coasting 8 65535 0 opens refused 16) ∷
     (opening (replicate 8 0xff) fair (record { low = 1000; high = 1000 }) opens refused 16) ∷
-    (coasting 7 1000 1000 opens refused 22) ∷ []
+    (coasting 7 1000 1000 opens refused 22) ∷
+    (able (by 0 1 1 1 1 fair) opens refused 16) ∷
+    (able (by 1 0 1 1 1 fair) opens refused 16) ∷
+    (able (by 1 1 0 1 1 fair) opens refused 16) ∷
+    (able (by 1 1 1 0 1 fair) opens refused 16) ∷
+    (able (by 1 1 1 1 0 fair) opens refused 16) ∷
+    (able (by 0 1 1 1 1 swift) opens refused 16) ∷
+    (able (by 1 1 0 1 1 (between 300 300 (negsuc 2) (negsuc 2) (pos 7) (pos 7) (negsuc 0) (negsuc 0) 80 80)) opens refused 16) ∷
+    (with-octets 8 (by 1 1 1 1 0 fair) opens refused 16) ∷
+    (with-octets 7 (by 0 0 0 0 0 fair) opens refused 22) ∷
+    (able (by 65535 65535 65535 65535 255 fair) opens at-first) ∷
+    (able (by 2 3 4 5 6 fair) opens at-first) ∷ []
 
 abbrev pub opened-to : List (Answer State)
 opened-to = map (λ x. opens-to (opened (x .opening))) openings
