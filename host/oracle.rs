@@ -9,6 +9,7 @@ mod replay;
 mod rules;
 mod runs;
 mod scripts;
+mod steps;
 
 use chance::{any_record, damaged, Chance};
 use rules::{group_octets, layout, listing, notification, pieces, split, Groups};

@@ -1,5 +1,5 @@
-// What the program `replay` must print for a script on standard input, by the rules of document 01 and of request W-201.
-use crate::rules::control::{self, Client, Console, Given, Mode, Speeds};
+// What the program `replay` must print for a script on standard input, by the rules of document 01 and of requests W-201 and W-206.
+use crate::rules::control::{self, Client, Console, Given, Mode, Range, Ranges, Speeds};
 use crate::rules::{names, set_of, values, Answer, Collection, Typed};
 use std::io::{self, Write};
 
@@ -40,6 +40,9 @@ fn run_word(console: &Console) -> &'static str {
     }
 }
 
+// The names of the ranges, in their order.
+pub const RANGES: [&str; 5] = ["speed", "inclination", "resistance", "power", "heart_rate"];
+
 fn console_line(replied: &Result<Given, u64>, console: &Console) -> String {
     let none = Given::default();
     let (outcome, given) = match replied {
@@ -53,10 +56,10 @@ fn console_line(replied: &Result<Given, u64>, console: &Console) -> String {
     };
     let clients = spaced(console.clients.iter().map(|Client { connected, indicating }| format!("{}{}", *connected as u8, *indicating as u8)));
     let settings = hex(&console.settings.values().flatten().copied().collect::<Vec<u8>>());
-    let ranges: String = ["speed", "inclination", "resistance", "power", "heart_rate"]
+    let ranges: String = RANGES
         .iter()
         .zip(console.ranges)
-        .map(|(name, (least, greatest))| format!(" {name}={least} to {greatest}"))
+        .map(|(name, Range { least, greatest, increment })| format!(" {name}={least} to {greatest} by {increment}"))
         .collect();
     format!(
         "{outcome} response={} status={} clients:{clients} awaited={} {mode} holder={} settings:{settings} features={} targets={}{ranges} low={} high={} run={}",
@@ -120,15 +123,23 @@ fn split_line(s: &[u8]) -> String {
     format!("{said} lent:{}", hex(&lent))
 }
 
-pub fn ranges(s: &[u8]) -> control::Ranges {
+// The ranges in 27 octets: each its least value, its greatest and its increment.
+pub fn ranges(s: &[u8]) -> Ranges {
     let signed = |place| at(s, place, 2) as u16 as i16 as i64;
-    let pair = |place| (signed(place), signed(place + 2));
-    [(at(s, 0, 2), at(s, 2, 2)), pair(4), pair(8), pair(12), (at(s, 16, 1), at(s, 17, 1))]
+    let signed_range = |place| Range { least: signed(place), greatest: signed(place + 2), increment: at(s, place + 4, 2) };
+    let speed = Range { least: at(s, 0, 2), greatest: at(s, 2, 2), increment: at(s, 4, 2) };
+    let heart_rate = Range { least: at(s, 24, 1), greatest: at(s, 25, 1), increment: at(s, 26, 1) };
+    [speed, signed_range(6), signed_range(12), signed_range(18), heart_rate]
 }
 
 // The target speeds, in the four octets after the ranges.
 pub fn speeds(s: &[u8]) -> Speeds {
-    Speeds { low: at(s, 18, 2) as u16, high: at(s, 20, 2) as u16 }
+    Speeds { low: at(s, 27, 2) as u16, high: at(s, 29, 2) as u16 }
+}
+
+// The Feature value: all octets after the target speeds; a line that is too short for them is a Feature value as a whole.
+pub fn feature(s: &[u8]) -> &[u8] {
+    s.get(31..).unwrap_or(s)
 }
 
 // What the lines of a script act on.
@@ -139,14 +150,14 @@ pub struct Replay {
 
 impl Replay {
     pub fn new() -> Replay {
-        Replay { console: control::open(&[], [(0, 0); 5], speeds(&[])).1, collection: Collection::new(1, None) }
+        Replay { console: control::open(&[], Ranges::default(), speeds(&[])).1, collection: Collection::new(1, None) }
     }
 
     fn call(&mut self, word: &str, s: &[u8]) -> Result<Given, u64> {
         let client = at(s, 0, 1) as u8;
         match word {
             "machine" => {
-                let (replied, console) = control::open(s.get(22..).unwrap_or(s), ranges(s), speeds(s));
+                let (replied, console) = control::open(feature(s), ranges(s), speeds(s));
                 self.console = console;
                 replied
             }

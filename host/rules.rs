@@ -242,7 +242,7 @@ pub fn values(kind: u32, groups: &Groups, signs: bool) -> Vec<i64> {
     values
 }
 
-fn number(field: &[u8], signed: bool) -> i64 {
+pub fn number(field: &[u8], signed: bool) -> i64 {
     let value: i64 = field.iter().enumerate().map(|(i, x)| (*x as i64) << (8 * i)).sum();
     if signed && value > 32767 { value - 65536 } else { value }
 }

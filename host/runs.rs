@@ -1,7 +1,7 @@
 // Spin down in the scripts of calls: the target speeds, the speeds of the flywheel, and the cases that the scripts must reach.
 use crate::chance::Chance;
-use crate::replay::{octets_of, ranges, speeds};
-use crate::rules::control::{Console, Speeds};
+use crate::replay::{feature, octets_of, ranges, speeds};
+use crate::rules::control::{Console, Range, Speeds};
 use crate::scripts::{hex, result, Seen};
 
 // The octets of two target speeds: next to each other, at the ends of their width, or any two; now and then low is at high or above it.
@@ -81,12 +81,13 @@ fn written(line: &str, said: &str) -> String {
     format!("{octets} {}", result(said))
 }
 
-// Notes of an opening whose ranges are in order: whether its target bit 15 is set, how its target speeds lie, and its outcome.
+// Notes of an opening whose ranges are not refused: whether its target bit 15 is set, how its target speeds lie, and its outcome.
 fn note_opening(seen: &mut Seen, line: &str, said: &str) {
     let s = octets_of(line);
     let Speeds { low, high } = speeds(&s);
-    let bit = if s.len() == 30 { (s[27] >> 7).to_string() } else { "missing".into() };
-    if ranges(&s).iter().all(|(least, greatest)| least <= greatest) {
+    let feature = feature(&s);
+    let bit = if feature.len() == 8 { (feature[5] >> 7).to_string() } else { "missing".into() };
+    if !ranges(&s).iter().any(Range::is_refused) {
         let lie = if low == high { "at" } else if low > high { "above" } else if low + 1 == high { "next to" } else { "below" };
         seen.0.insert(format!("bit 15 {bit}, low {lie} high: {}", said.split(' ').next().unwrap()));
     }

@@ -1,9 +1,10 @@
 // Scripts for the program `replay`, from a fixed seed. Each must reach the cases that it is meant for: if it misses one, writing it fails.
 use crate::chance::{any_record, any_set, damaged, record_with, Chance};
 use crate::replay::Replay;
-use crate::rules::control::{parameter_length, Mode, Ranges};
+use crate::rules::control::{parameter_length, Mode, Range, Ranges};
 use crate::rules::pieces;
 use crate::runs::{self, Before};
+use crate::steps;
 use std::collections::BTreeSet;
 use std::io::{self, Write};
 
@@ -26,32 +27,37 @@ fn any_octets(c: &mut Chance, count: u64) -> Vec<u8> {
     (0..count).map(|_| c.next() as u8).collect()
 }
 
-// A range between two limits: all of it, one value, one that begins or ends at a limit, or any; now and then a reversed one.
-fn any_range(c: &mut Chance, least: i64, greatest: i64) -> (i64, i64) {
-    let span = (greatest - least + 1) as u64;
-    let (a, b) = (least + c.below(span) as i64, least + c.below(span) as i64);
-    match c.below(40) {
+// A range between two limits: all of it, one value, one that begins or ends at a limit, or any; now and then a reversed one. Its increment is at most `most`.
+fn any_range(c: &mut Chance, least: i64, greatest: i64, most: u64) -> Range {
+    let values = (greatest - least + 1) as u64;
+    let (a, b) = (least + c.below(values) as i64, least + c.below(values) as i64);
+    let (least, greatest) = match c.below(40) {
         0 => (a.max(b), a.min(b)),
         1..=9 => (least, greatest),
         10..=14 => (a, a),
         15..=19 => (least, a),
         20..=24 => (a, greatest),
         _ => (a.min(b), a.max(b)),
-    }
+    };
+    Range { least, greatest, increment: steps::any_increment(c, least.abs_diff(greatest), most) }
 }
 
 fn any_ranges(c: &mut Chance) -> Ranges {
     let resistance = match c.below(4) {
-        0 => any_range(c, -32768, -1),
-        1 => any_range(c, -5, 300),
-        _ => any_range(c, -32768, 32767),
+        0 => any_range(c, -32768, -1, 65535),
+        1 => any_range(c, -5, 300, 65535),
+        2 => any_range(c, -300, 255, 65535),
+        _ => any_range(c, -32768, 32767, 65535),
     };
-    [any_range(c, 0, 65535), any_range(c, -32768, 32767), resistance, any_range(c, -32768, 32767), any_range(c, 0, 255)]
+    let speed = any_range(c, 0, 65535, 65535);
+    let [inclination, power] = [(); 2].map(|_| any_range(c, -32768, 32767, 65535));
+    [speed, inclination, resistance, power, any_range(c, 0, 255, 255)]
 }
 
 fn range_octets(ranges: &Ranges) -> Vec<u8> {
-    let wide = ranges[..4].iter().flat_map(|(least, greatest)| [*least as u16, *greatest as u16]).flat_map(u16::to_le_bytes);
-    wide.chain([ranges[4].0 as u8, ranges[4].1 as u8]).collect()
+    let [wide @ .., heart_rate] = ranges.map(|Range { least, greatest, increment }| [least, greatest, increment]);
+    let octets = wide.as_flattened().iter().flat_map(|x| (*x as u16).to_le_bytes());
+    octets.chain(heart_rate.map(|x| x as u8)).collect()
 }
 
 // Opens a machine, most often with every target setting.
@@ -76,17 +82,11 @@ fn any_client(c: &mut Chance) -> u8 {
     }
 }
 
-// A parameter's octets: for a target with a range, values at its ends, next to them, between them, and any.
-fn parameter(c: &mut Chance, op: u8, ranges: &Ranges) -> Vec<u8> {
+// A parameter's octets.
+pub fn parameter(c: &mut Chance, op: u8, ranges: &Ranges) -> Vec<u8> {
     let length = parameter_length(op).unwrap_or(2) as u64;
     match op {
-        0x02..=0x06 => {
-            let (least, greatest) = ranges[op as usize - 2];
-            let any = c.next() as i64;
-            let between = least + c.below((greatest - least) as u64 + 1) as i64;
-            let value = [least - 1, least, greatest, greatest + 1, any, between, between][c.below(7) as usize];
-            value.to_le_bytes()[..length as usize].to_vec()
-        }
+        0x02..=0x06 => steps::any_target(c, op, &ranges[op as usize - 2]).to_le_bytes()[..length as usize].to_vec(),
         0x08 => vec![c.pick(&[1, 2, 1, 2, 1, 2, 0, 3, 255]) as u8],
         0x13 => vec![c.pick(&[1, 1, 1, 1, 1, 1, 2, 2, 0, 3, 255]) as u8],
         _ => any_octets(c, length),
@@ -119,7 +119,7 @@ fn write(c: &mut Chance, replay: &Replay) -> String {
     format!("write {client:02X} {}", hex(&octets))
 }
 
-// A call; in a run one of three feeds a speed.
+// A call; in a run one of three feeds a speed. Most confirmations are by a client to whom a response is due.
 fn call(c: &mut Chance, replay: &Replay) -> String {
     if c.below(if replay.console.run.is_some() { 3 } else { 40 }) == 0 {
         return runs::flywheel(c, &replay.console);
@@ -131,7 +131,7 @@ fn call(c: &mut Chance, replay: &Replay) -> String {
         2 => format!("disconnect {client:02X}"),
         3..=6 => format!("on {client:02X}"),
         7 => format!("off {client:02X}"),
-        8..=21 => format!("confirm {due:02X}"),
+        8..=21 if replay.console.awaited.is_some() || c.below(4) == 0 => format!("confirm {due:02X}"),
         22..=23 => format!("setting {:02X}", if c.below(4) == 0 { c.next() } else { c.below(0x16) } as u8),
         _ => write(c, replay),
     }
@@ -161,9 +161,11 @@ fn note(seen: &mut Seen, line: &str, mode: Mode, said: &str) {
 fn say(out: &mut impl Write, replay: &mut Replay, seen: &mut Seen, line: String) -> io::Result<()> {
     let mode = replay.console.mode;
     let before = Before::of(&replay.console);
+    let set = steps::set_targets(&replay.console);
     let said = replay.line(&line);
     note(seen, &line, mode, &said);
     runs::note(seen, &before, &line, &said, &replay.console);
+    steps::note(seen, &set, &line, &said, &replay.console);
     writeln!(out, "{line}")
 }
 
@@ -171,21 +173,36 @@ fn say(out: &mut impl Write, replay: &mut Replay, seen: &mut Seen, line: String)
 const FIRST: [&str; 3] = ["connect 00", "on 00", "connect 01"];
 const START: [&str; 5] = ["on 01", "write 00 00", "confirm 00", "write 00 1301", "confirm 00"];
 
-// 100,000 calls in 2,000 scripts, each on a machine of its own.
-pub fn calls(out: &mut impl Write, c: &mut Chance) -> io::Result<()> {
-    let (mut replay, mut seen) = (Replay::new(), Seen(BTreeSet::new()));
-    for number in 0..2000 {
-        let opening = machine(c);
-        say(out, &mut replay, &mut seen, opening)?;
-        let start: &[&str] = if number % 3 > 0 { &START } else { &[] };
-        for line in FIRST.iter().chain(start) {
-            say(out, &mut replay, &mut seen, line.to_string())?;
-        }
-        for _ in start.len()..50 {
-            let line = call(c, &replay);
-            say(out, &mut replay, &mut seen, line)?;
-        }
+// A script of 50 calls after the first ones.
+fn any_calls(out: &mut impl Write, c: &mut Chance, replay: &mut Replay, seen: &mut Seen, start: &[&str]) -> io::Result<()> {
+    let opening = machine(c);
+    say(out, replay, seen, opening)?;
+    for line in FIRST.iter().chain(start) {
+        say(out, replay, seen, line.to_string())?;
     }
+    for _ in start.len()..50 {
+        let line = call(c, replay);
+        say(out, replay, seen, line)?;
+    }
+    Ok(())
+}
+
+// A script of 25 writes by one client, most of them targets with a range, each confirmed.
+fn targets(out: &mut impl Write, c: &mut Chance, replay: &mut Replay, seen: &mut Seen) -> io::Result<()> {
+    let opening = machine(c);
+    for line in [&opening, "connect 00", "on 00"] {
+        say(out, replay, seen, line.to_string())?;
+    }
+    for _ in 0..25 {
+        let line = steps::write(c, &replay.console);
+        say(out, replay, seen, line)?;
+        say(out, replay, seen, "confirm 00".to_string())?;
+    }
+    Ok(())
+}
+
+// The refusals and results that the scripts must reach.
+fn reached(seen: &Seen) {
     let refusals = "machine 22 16 connect 10 17 disconnect 10 17 on 10 17 off 10 17 confirm 10 17 21 write 10 17 18 19 20";
     let mut word = "";
     for next in refusals.split(' ') {
@@ -203,7 +220,24 @@ pub fn calls(out: &mut impl Write, c: &mut Chance) -> io::Result<()> {
     seen.must_have(["00 04", "13 04", "15 02"].map(String::from));
     let judged = "Stopped 07 01,Running 07 04,Paused 07 01,Stopped 0801 04,Running 0801 01,Paused 0801 01,Stopped 0802 04,Running 0802 01,Paused 0802 04";
     seen.must_have(judged.split(',').map(String::from));
+}
+
+// 4,000 openings; 2,000 scripts of any calls, 108,000 lines; and 1,000 scripts of targets, 53,000 lines. Each script is on a machine of its own.
+pub fn calls(out: &mut impl Write, c: &mut Chance) -> io::Result<()> {
+    let (mut replay, mut seen) = (Replay::new(), Seen(BTreeSet::new()));
+    for _ in 0..4000 {
+        let opening = machine(c);
+        say(out, &mut replay, &mut seen, opening)?;
+    }
+    for number in 0..2000 {
+        any_calls(out, c, &mut replay, &mut seen, if number % 3 > 0 { &START } else { &[] })?;
+    }
+    for _ in 0..1000 {
+        targets(out, c, &mut replay, &mut seen)?;
+    }
+    reached(&seen);
     runs::reached(&seen);
+    steps::reached(&seen);
     Ok(())
 }
 

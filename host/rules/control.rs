@@ -1,4 +1,4 @@
-// A second implementation of the control point, written from document 01 and request W-201 of document 02 alone.
+// A second implementation of the control point, written from document 01 and requests W-201 and W-206 of document 02 alone.
 use super::Width::{self, *};
 use std::collections::BTreeMap;
 
@@ -15,8 +15,29 @@ pub struct Client {
     pub indicating: bool,
 }
 
-// The ranges of op codes 02 to 06 (speed, inclination, resistance, power, heart rate), each its least value and its greatest.
-pub type Ranges = [(i64, i64); 5];
+// "Each range gets its increment, u16 (for heart rate u8)."; "The increment stands in the same shared range as the two ends."
+#[derive(Clone, Copy, Default)]
+pub struct Range {
+    pub least: i64,
+    pub greatest: i64,
+    pub increment: i64,
+}
+
+impl Range {
+    // "A target is allowed when it is in the range and its distance from the least value is a multiple of the increment."
+    pub fn admits(&self, value: i64) -> bool {
+        let is_inside = self.least <= value && value <= self.greatest;
+        is_inside && (0..=65535).any(|times| times * self.increment == value - self.least)
+    }
+
+    // "some range has least above greatest"; "16 also for an increment of 0"
+    pub fn is_refused(&self) -> bool {
+        self.least > self.greatest || self.increment == 0
+    }
+}
+
+// The ranges of op codes 02 to 06: speed, inclination, resistance, power, heart rate.
+pub type Ranges = [Range; 5];
 
 // "a low and a high target speed, u16 each, fixed when the machine is opened"
 #[derive(Clone, Copy)]
@@ -110,13 +131,13 @@ fn first(features: u32, targets: u32, ranges: Ranges, speeds: Speeds) -> Console
     }
 }
 
-// "opening a machine 22, 16"; "16 also when the low target is not below the high one"
+// "opening a machine 22, 16"; "16 also when the low target is not below the high one"; "16 also for an increment of 0"
 pub fn open(feature: &[u8], ranges: Ranges, speeds: Speeds) -> (Result<Given, u64>, Console) {
-    let closed = || first(0, 0, [(0, 0); 5], Speeds { low: 0, high: 0 });
+    let closed = || first(0, 0, Ranges::default(), Speeds { low: 0, high: 0 });
     if feature.len() != 8 {
         return (Err(22), closed());
     }
-    if ranges.iter().any(|(least, greatest)| least > greatest) || speeds.low >= speeds.high {
+    if ranges.iter().any(Range::is_refused) || speeds.low >= speeds.high {
         return (Err(16), closed());
     }
     let named = |at: usize| super::number(&feature[at..at + 4], false) as u32 & 0x1FFFF;
@@ -213,7 +234,7 @@ impl Console {
     }
 
     // "unsupported op code, result 02; not the holder (but for 00), 05; wrong length, value outside its range or 08 with neither 1 nor 2, result 03; then
-    // 04 ..; else 01"; of 13, "result 03 for neither 1 nor 2, 04 for a start during a run"
+    // 04 ..; else 01"; of 13, "result 03 for neither 1 nor 2, 04 for a start during a run"; "result 03 also for a target off the steps"
     fn result(&self, client: u8, op: u8, p: &[u8]) -> u8 {
         let length = match parameter_length(op) {
             Some(length) if needed_bit(op).map_or(true, |bit| self.targets >> bit & 1 == 1) => length,
@@ -238,17 +259,14 @@ impl Console {
 
     fn within(&self, op: u8, p: &[u8]) -> bool {
         match op {
-            0x02..=0x06 => {
-                let value = super::number(p, op == 0x03 || op == 0x05);
-                let (least, greatest) = self.ranges[op as usize - 2];
-                least <= value && value <= greatest
-            }
+            0x02..=0x06 => self.ranges[op as usize - 2].admits(super::number(p, op == 0x03 || op == 0x05)),
             0x08 | 0x13 => p[0] == 1 || p[0] == 2,
             _ => true,
         }
     }
 
-    // Does what a success does, and returns the status octets; of 13, "a start or an ignore gives none".
+    // Does what a success does, and returns the status octets; of 13, "a start or an ignore gives none"; of 01, "Reset still sets zero, whether or not
+    // zero is allowed."
     fn succeed(&mut self, client: u8, op: u8, p: &[u8]) -> Vec<u8> {
         match op {
             0x00 => self.holder = Some(client),

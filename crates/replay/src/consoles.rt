@@ -26,53 +26,57 @@ use service::control::ranges::SpeedRange;
 use service::control::spin_down::Run;
 use service::control::spin_down::TargetSpeeds;
 
-// The ranges in eighteen octets: speed, inclination, resistance, power and heart rate, each its least value and its greatest.
+// The ranges in 27 octets: speed, inclination, resistance, power and heart rate, each its least value, its greatest and its increment.
 fn ranges_at(s: &[u8]) -> Ranges {
-    let inclination = signed_range_at(s, 4);
-    let resistance = signed_range_at(s, 8);
-    let power = signed_range_at(s, 12);
+    let inclination = signed_range_at(s, 6);
+    let resistance = signed_range_at(s, 12);
+    let power = signed_range_at(s, 18);
     Ranges {
         speed: SpeedRange {
             least: u16_at(s, 0),
             greatest: u16_at(s, 2),
+            increment: u16_at(s, 4),
         },
         inclination,
         resistance,
         power,
         heart_rate: HeartRateRange {
-            least: u8_at(s, 16),
-            greatest: u8_at(s, 17),
+            least: u8_at(s, 24),
+            greatest: u8_at(s, 25),
+            increment: u8_at(s, 26),
         },
     }
 }
 
 fn signed_range_at(s: &[u8], at: usize) -> SignedRange {
-    if at > 12 {
+    if at > 18 {
         return SignedRange {
             least: 0,
             greatest: 0,
+            increment: 0,
         };
     }
     SignedRange {
         least: s16_at(s, at),
         greatest: s16_at(s, at + 2),
+        increment: u16_at(s, at + 4),
     }
 }
 
 // The target speeds, in the four octets after the ranges.
 fn speeds_at(s: &[u8]) -> TargetSpeeds {
     TargetSpeeds {
-        low: u16_at(s, 18),
-        high: u16_at(s, 20),
+        low: u16_at(s, 27),
+        high: u16_at(s, 29),
     }
 }
 
 // Opens a machine: its ranges, its target speeds, and all octets after them as the Feature value.
 pub(crate) fn opened(s: &[u8]) -> Reply {
-    if s.len() < 22 {
+    if s.len() < 31 {
         return Console::open(s, ranges_at(s), speeds_at(s));
     }
-    Console::open(&s[22..], ranges_at(s), speeds_at(s))
+    Console::open(&s[31..], ranges_at(s), speeds_at(s))
 }
 
 // Feeds the flywheel's speed.
@@ -148,16 +152,19 @@ fn print_mode(mode: Mode) {
 fn print_range(label: &[u8], range: SignedRange) {
     print_signed(label, range.least);
     print_signed(b" to ", range.greatest);
+    print_u16(b" by ", range.increment);
 }
 
 fn print_ranges(ranges: Ranges) {
     print_u16(b" speed=", ranges.speed.least);
     print_u16(b" to ", ranges.speed.greatest);
+    print_u16(b" by ", ranges.speed.increment);
     print_range(b" inclination=", ranges.inclination);
     print_range(b" resistance=", ranges.resistance);
     print_range(b" power=", ranges.power);
     print_u8(b" heart_rate=", ranges.heart_rate.least);
     print_u8(b" to ", ranges.heart_rate.greatest);
+    print_u8(b" by ", ranges.heart_rate.increment);
 }
 
 fn print_speeds(speeds: TargetSpeeds) {

@@ -1,6 +1,6 @@
 // A script: its lines are run in turn, on one console and one collection. A line is a word, and octets in hex; numbers have their least octet first.
-//   machine        the ranges (speed, inclination, resistance, power: least and greatest in two octets each; heart rate: in one each), the low and the high
-//                  target speed in two octets each, then the Feature value
+//   machine        the ranges (speed, inclination, resistance, power: least, greatest and increment in two octets each; heart rate: in one each), the low
+//                  and the high target speed in two octets each, then the Feature value
 //   connect, disconnect, on, off, confirm    a client
 //   write          a client, then the octets that it writes
 //   flywheel       its speed in two octets
