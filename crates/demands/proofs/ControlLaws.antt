@@ -17,6 +17,7 @@ pub mod Rules
 pub mod Answered
 pub mod Demanded
 pub mod Targets
+pub mod Steppers
 pub mod Meets
 pub mod Liars
 pub mod Coasters
