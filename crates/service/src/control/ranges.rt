@@ -5,7 +5,8 @@ use record::octets::s16_at;
 use record::octets::u8_at;
 use record::octets::u16_at;
 ghost use mathlib.Core.Path.{_≡_};
-ghost use mathlib.Core.Bool.{true};
+ghost use mathlib.Core.Bool.{true, not};
+ghost use lib.Dec.{eqb};
 ghost use lib.IntN.{pos};
 ghost use lib.Signed.{leZ};
 ghost use Rattle.service.specs.Control.Ranges.{of-speed, of-signed, of-heart-rate, distance as Ranges·distance, multiple, admits as Ranges·admits, in-range, is-range, are-ranges, allowed as Ranges·allowed};
@@ -36,6 +37,13 @@ pub struct Ranges {
     pub heart_rate: HeartRateRange,
 }
 
+// "16 also for an increment of 0"
+fn has_steps(increment: u16) -> bool
+    ensures { λ b. ⌜ b ≡ not (eqb increment 0) ⌝ }
+{
+    increment != 0
+}
+
 // Whether a distance is a multiple of an increment; of 0, only 0 is.
 fn is_multiple(increment: u16, n: u16) -> bool
     ensures { λ b. ⌜ b ≡ multiple increment n ⌝ }
@@ -59,7 +67,7 @@ impl SpeedRange {
     pub(crate) fn is_range(self) -> bool
         ensures { λ b. ⌜ b ≡ is-range (of-speed self) ⌝ }
     {
-        self.least <= self.greatest && self.increment != 0
+        self.least <= self.greatest && has_steps(self.increment)
     }
 
     // Whether a speed lies in it, and on a step.
@@ -78,7 +86,7 @@ impl SignedRange {
     pub(crate) fn is_range(self) -> bool
         ensures { λ b. ⌜ b ≡ is-range (of-signed self) ⌝ }
     {
-        self.least <= self.greatest && self.increment != 0
+        self.least <= self.greatest && has_steps(self.increment)
     }
 
     // Whether a number lies in it, and on a step.
@@ -97,7 +105,7 @@ impl HeartRateRange {
     pub(crate) fn is_range(self) -> bool
         ensures { λ b. ⌜ b ≡ is-range (of-heart-rate self) ⌝ }
     {
-        self.least <= self.greatest && self.increment != 0
+        self.least <= self.greatest && has_steps(self.increment as u16)
     }
 
     // Whether a heart rate lies in it, and on a step.

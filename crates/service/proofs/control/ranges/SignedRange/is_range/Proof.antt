@@ -20,7 +20,7 @@ returns : tie.Need-returns
 returns c =
     let s = c .before .before .before .before in
     let t : leZ (s .args .self .least) (s .args .self .greatest) ≡ true = rw (toZ-ofZ (least-fits s), toZ-ofZ (greatest-fits s)) at (c .before .if1 .taken) in
-    rw t
+    rw t (c .has-steps .ensures)
 
 returns-2 : tie.Need-returns-2
 returns-2 c =
@@ -29,5 +29,4 @@ returns-2 c =
     rw (toZ-ofZ (least-fits s), toZ-ofZ (greatest-fits s), t)
 
 pub is-range-spec : {M : Type 1} → statement M
-is-range-spec = tie.close (tie.spec returns
-    returns-2)
+is-range-spec = tie.close (tie.spec (λ c κs. search needs) returns returns-2)
