@@ -101,18 +101,20 @@ fn opened(setup: Setup) -> Console
     }
 }
 
-// The console in a reply that refuses to open one: it supports no target setting, every range is 0 to 0, and so are the target speeds.
+// The console in a reply that refuses to open one: it supports no target setting, and each number of its ranges and target speeds is 0.
 fn closed() -> Console
     ensures { λ r. ⌜ r ≡ Console·closed ⌝ }
 {
     let signed = SignedRange {
         least: 0,
         greatest: 0,
+        increment: 0,
     };
     let ranges = Ranges {
         speed: SpeedRange {
             least: 0,
             greatest: 0,
+            increment: 0,
         },
         inclination: signed,
         resistance: signed,
@@ -120,6 +122,7 @@ fn closed() -> Console
         heart_rate: HeartRateRange {
             least: 0,
             greatest: 0,
+            increment: 0,
         },
     };
     let feature = Feature {

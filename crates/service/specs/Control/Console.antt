@@ -41,16 +41,16 @@ first s = record { machine = fresh s; clients = replicate 4 absent; awaited = No
 abbrev pub with-machine : Console → Machine → Console
 with-machine k m = record { machine = m; clients = k .clients; awaited = k .awaited }
 
--- the console in a reply that refuses to open one: no target setting, every range is 0 to 0, and so are the target speeds
+-- the console in a reply that refuses to open one: no target setting, and each number of its ranges and target speeds is 0
 abbrev pub closed : Console
 closed = first (record {
   feature = record { features = 0; targets = 0 };
   ranges = record {
-    speed = record { least = 0; greatest = 0 };
-    inclination = record { least = pos 0; greatest = pos 0 };
-    resistance = record { least = pos 0; greatest = pos 0 };
-    power = record { least = pos 0; greatest = pos 0 };
-    «heart_rate» = record { least = 0; greatest = 0 };
+    speed = record { least = 0; greatest = 0; increment = 0 };
+    inclination = record { least = pos 0; greatest = pos 0; increment = 0 };
+    resistance = record { least = pos 0; greatest = pos 0; increment = 0 };
+    power = record { least = pos 0; greatest = pos 0; increment = 0 };
+    «heart_rate» = record { least = 0; greatest = 0; increment = 0 };
   };
   speeds = record { low = 0; high = 0 };
 })

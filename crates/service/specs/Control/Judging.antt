@@ -1,6 +1,6 @@
 -- "unsupported op code, result 02; not the holder (but for 00), 05; wrong length, value outside its range or 08 with neither 1 nor 2, result 03;
 -- then 04 when 00 finds another holder, 07 finds running, 08 with 1 finds stopped, or 08 with 2 finds anything but running; else 01." W-201: "result 03
--- for neither 1 nor 2, 04 for a start during a run".
+-- for neither 1 nor 2, 04 for a start during a run". W-206: "result 03 also for a target off the steps".
 use Prim.Native.Nat.{ℕ}
 use mathlib.Core.Bool.{Bool, true, false, cond, not, _&&_}
 use mathlib.Core.List.{List}
@@ -64,7 +64,8 @@ takes SpinsDown = false
 abbrev pub controls : Who → ℕ → Act → Bool
 controls w c a = cond (takes a) true (is w c)
 
--- the opposite of "wrong length, value outside its range or 08 with neither 1 nor 2"; W-201, of 13: "result 03 for neither 1 nor 2"
+-- the opposite of "wrong length, value outside its range or 08 with neither 1 nor 2"; W-201, of 13: "result 03 for neither 1 nor 2"; W-206: "result 03
+-- also for a target off the steps"
 unfoldable pub fit : Ranges → OpCode → List ℕ → Bool
 fit ranges x p = eqb (length p) (size (x .parameter)) && allowed ranges (x .bound) p
 

@@ -15,7 +15,8 @@ use Rattle.service.specs.declared.control.spin_down.Run.the-variants.{Of
 use Rattle.service.specs.Control.Ranges.{are-ranges}
 use Rattle.service.specs.Control.SpinDown.{in-order}
 
--- the opposite of "16: some range has least above greatest", and of W-201's "16 also when the low target is not below the high one"
+-- the opposite of "16: some range has least above greatest", of W-206's "16 also for an increment of 0", and of W-201's "16 also when the low target is
+-- not below the high one"
 abbrev pub usable : Setup → Bool
 usable s = are-ranges (s .ranges) && in-order (s .speeds)
 

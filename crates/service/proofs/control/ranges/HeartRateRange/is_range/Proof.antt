@@ -1,0 +1,8 @@
+-- `is_range` meets its contract: the two ends, then the increment. Assumes nothing.
+use borrow.Author.Tests.{le-leb, lt-leb}
+use Rattle.service.proofs.control.ranges.HeartRateRange.is_range.Statement.{statement}
+use Rattle.service.proofs.control.ranges.HeartRateRange.is_range.Tie as tie
+
+pub is-range-spec : {M : Type 1} → statement M
+is-range-spec = tie.close (tie.spec (λ c. rw (le-leb _ _ (c .before .if1 .taken)))
+    (λ c. rw (lt-leb _ _ (c .if1 .left))))
