@@ -1,5 +1,5 @@
 #!/usr/bin/env python3
-"""Prints what crates/session must print, from document 01's words alone: the calls of two clients of a treadmill's control point, one per line,
+"""Prints what crates/session must print, from the words of documents 01 and 02 alone: the calls of two clients of a treadmill's control point, one per line,
 and the state when a call changes it.
 
     python3 tools/session.py > crates/session/stdout
@@ -9,14 +9,15 @@ import sys
 sys.dont_write_bytecode = True
 
 from conformance import status
-from tables import OP_CODES, RANGES, parameter, target_bit, words
+from tables import OP_CODES, RANGES, admitted, parameter, target_bit, words
 from vectors import OCTETS, hexed, spelled
 
-# The target settings of the treadmill: "0 speed, 1 inclination, .. 3 power"; no spin down, which is 15. Its ranges: "least, greatest, both allowed".
+# The target settings of the treadmill: "0 speed, 1 inclination, .. 3 power"; no spin down, which is 15.
 TARGETS = {0, 1, 3}
 # Its features: "0 average speed, .. 2 distance, 3 inclination, .. 12 elapsed, .. 15 belt force and power output"
 FEATURES = {0, 2, 3, 12, 15}
-ALLOWED = {"speed": (100, 2000), "inclination": (-30, 150), "resistance": (0, 0), "power": (0, 500), "heart rate": (0, 0)}
+# Its ranges: "least, greatest, both allowed", and the increment, which "stands in the same shared range as the two ends".
+ALLOWED = {"speed": (100, 2000, 10), "inclination": (-30, 150, 5), "resistance": (0, 0, 1), "power": (0, 500, 1), "heart rate": (0, 0, 1)}
 
 # The widths of each op code's parameter.
 PARAMETERS = {op: parameter(name) for op, name in enumerate(words(OP_CODES, ";"))}
@@ -28,7 +29,8 @@ STORY = [
     (0, "connects"), (0, ON),
     (0, "writes", "00", "01"), (0, "confirms"),
     (0, "writes", "02 E8 03", "01"), (0, "confirms"),
-    (0, "writes", "02 D1 07", "03"), (0, "confirms"),
+    (0, "writes", "02 ED 03", "03"), (0, "confirms"),
+    (0, "writes", "02 DA 07", "03"), (0, "confirms"),
     (0, "writes", "07", "01"), (1, "connects"), (1, ON), (1, "writes", "00", "refused 20"), (0, "confirms"),
     (1, "writes", "00", "04"), (1, "confirms"),
     (1, "writes", "07", "05"), (1, "confirms"),
@@ -49,14 +51,13 @@ def supported(op):
 
 
 def allowed(op, octets):
-    """Neither "wrong length" nor "value outside its range or 08 with neither 1 nor 2"."""
+    """Neither "wrong length" nor "value outside its range or 08 with neither 1 nor 2", nor "a target off the steps"."""
     widths = PARAMETERS[op]
     if len(octets) != sum(OCTETS[width] for width in widths):
         return False
     if op != 0x08 and op not in RANGES:
         return True
-    least, greatest = (1, 2) if op == 0x08 else ALLOWED[RANGES[op]]
-    return least <= int.from_bytes(octets, "little", signed=widths == ["s16"]) <= greatest
+    return admitted(*(1, 2, 1) if op == 0x08 else ALLOWED[RANGES[op]], int.from_bytes(octets, "little", signed=widths == ["s16"]))
 
 
 class Console:

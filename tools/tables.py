@@ -1,5 +1,5 @@
 #!/usr/bin/env python3
-"""Prints what crates/fttables must print: the reference's tables, from document 01's words and tables and W-201 of document 02 alone.
+"""Prints what crates/fttables must print: the reference's tables, from document 01's words and tables and W-201 and W-206 of document 02 alone.
 
     python3 tools/tables.py > crates/fttables/stdout
 """
@@ -35,8 +35,8 @@ REFUSALS = [
     (13, "record not well formed"),
     (14, "lent output shorter than this answer"),
     (15, "part number not below the number of parts"),
-    # "16 also when the low target is not below the high one"
-    (16, "some range has least above greatest, or the low target speed is not below the high one"),
+    # "16 also for an increment of 0"; "16 also when the low target is not below the high one"
+    (16, "some range has least above greatest or an increment of 0, or the low target speed is not below the high one"),
     (17, "client not connected; for connect, already connected"),
     (18, "write of no octets"),
     (19, "indications off (ATT FD)"),
@@ -91,17 +91,17 @@ LEAVES = {
     "reading a Feature value": "nothing: the call has no state",
     "opening a collection": "a collection that holds nothing, not to be used",
     "collecting a notification": "11: the collection as it was; 30 to 34: nothing held",
-    "opening a machine": "a console with no target setting, every range 0 and both target speeds 0, not to be used",
+    "opening a machine": "a console with no target setting, every range 0 (least, greatest and increment) and both target speeds 0, not to be used",
     "connect": CONSOLE, "disconnect": CONSOLE, "indications": CONSOLE, "write": CONSOLE, "confirm": CONSOLE,
     "listing a capture": "the lent octets as they were",
     "a line of a listing": "36, 11 and 37: the listing ends; 30 to 32: nothing held, and the listing goes on",
 }
 
-# "A write is judged in this order: ..", after the refusals; "result 03 for neither 1 nor 2, 04 for a start during a run"
+# "A write is judged in this order: ..", after the refusals; "result 03 for neither 1 nor 2, 04 for a start during a run"; "result 03 also for a target off the steps"
 RESULTS = [
     ("02", "the op code is not supported"),
     ("05", "the client does not hold control (but for 00)"),
-    ("03", "wrong length, a value outside its range, or 08 or 13 with neither 1 nor 2"),
+    ("03", "wrong length, a value outside its range or off its steps, or 08 or 13 with neither 1 nor 2"),
     ("04", "00 finds another holder, 07 finds running, 08 with 1 finds stopped, 08 with 2 finds anything but running, or 13 with 1 finds a run"),
     ("01", "otherwise: success"),
 ]
@@ -194,6 +194,25 @@ UNITS = """02 speed, kilometers per hour, 0.01; 03 inclination, percent, 0.1; 04
 
 WIDTHS = {0x02: "u16", 0x03: "s16", 0x04: "s16", 0x05: "s16", 0x06: "u8"}
 
+# "Each range gets its increment, u16 (for heart rate u8)."
+INCREMENTS = {op: "u8" if op == 0x06 else "u16" for op in WIDTHS}
+
+# A range: its least value, its greatest and its increment; then each target that is written, with the answer as it was worked out by hand.
+STEPS = [
+    ("speed", 1000, 2000, 10, {990: "03", 1000: "01", 1005: "03", 1010: "01", 2000: "01", 2010: "03"}),
+    ("speed", 1000, 2000, 1, {1005: "01"}),
+    ("inclination", -32768, 32767, 65535, {-32768: "01", -32767: "03", 0: "03", 32766: "03", 32767: "01"}),
+    ("resistance", -5, 3, 2, {0: "03", 1: "01", 2: "03", 3: "01"}),
+    ("power", -32768, 32767, 65535, {-32768: "01", -1: "03", 32767: "01"}),
+    ("heart rate", 0, 25, 10, {20: "01", 25: "03"}),
+    ("heart rate", 60, 70, 20, {60: "01", 70: "03"}),
+    ("speed", 1000, 2000, 0, {1000: "refusal 16"}),
+    ("inclination", -30, 150, 0, {-30: "refusal 16"}),
+    ("resistance", -5, 3, 0, {0: "refusal 16"}),
+    ("power", 0, 500, 0, {0: "refusal 16"}),
+    ("heart rate", 60, 200, 0, {60: "refusal 16"}),
+]
+
 
 def state_after(state, write):
     """"04 when .. 07 finds running, 08 with 1 finds stopped, or 08 with 2 finds anything but running" """
@@ -208,6 +227,25 @@ def unit_rows():
         yield op.replace("/", ", "), name, unit, resolution
 
 
+def admitted(least, greatest, increment, target):
+    """"A target is allowed when it is in the range and its distance from the least value is a multiple of the increment." """
+    return least <= target <= greatest and (target - least) % increment == 0
+
+
+def answer(least, greatest, increment, target):
+    """"Refusals: 16 also for an increment of 0; result 03 also for a target off the steps." """
+    if increment == 0:
+        return "refusal 16"
+    return "01" if admitted(least, greatest, increment, target) else "03"
+
+
+def step_rows():
+    for name, least, greatest, increment, targets in STEPS:
+        for target, worked in targets.items():
+            assert answer(least, greatest, increment, target) == worked, (name, least, greatest, increment, target)
+            yield name, least, greatest, increment, target, worked
+
+
 def machine():
     print("\n# Machine\n\n## States\n")
     table(["machine", *WRITES], [(state, *(state_after(state, write) for write in WRITES)) for state in ("stopped", "running", "paused")])
@@ -217,8 +255,10 @@ def machine():
     table(["op code", "parameter", "unit", "resolution"], unit_rows())
     print("\n## Ranges\n")
     names = words(OP_CODES, ";")
-    table(["range", "least and greatest", "op code", "its parameter"],
-          [(RANGES[op], width, "%02X" % op, parameter(names[op])[0]) for op, width in WIDTHS.items()])
+    table(["range", "least and greatest", "increment", "op code", "its parameter"],
+          [(RANGES[op], width, INCREMENTS[op], "%02X" % op, parameter(names[op])[0]) for op, width in WIDTHS.items()])
+    print("\n## Steps\n")
+    table(["range", "least", "greatest", "increment", "target", "result"], step_rows())
 
 
 def keys():

@@ -6,7 +6,7 @@ from .svg import GREY, LINE, Picture, lines_of, text_width
 
 LIFELINES = {"client 0": 42, "console": 340, "client 1": 638}
 CONSOLE = LIFELINES["console"]
-PITCH = 13.5
+PITCH = 13
 NOTE = 470
 HEADS = 20
 OCTETS = r"[0-9A-F]{2}(?: [0-9A-F]{2})*"

@@ -34,28 +34,34 @@ pub(crate) struct Bench {
     expected: bool,
 }
 
-// Speed 1 to 60 km/h, inclination -10 to 15 %, resistance 1 to 10, power 10 to 500 W, heart rate 60 to 200.
+// Speed 1 to 60 km/h, inclination -10 to 15 %, resistance 1 to 10, power 10 to 500 W, heart rate 60 to 200; each in steps of 1:
+// source document 003 does not speak of increments.
 fn ranges() -> Ranges {
     Ranges {
         speed: SpeedRange {
             least: 100,
             greatest: 6000,
+            increment: 1,
         },
         inclination: SignedRange {
             least: -100,
             greatest: 150,
+            increment: 1,
         },
         resistance: SignedRange {
             least: 10,
             greatest: 100,
+            increment: 1,
         },
         power: SignedRange {
             least: 10,
             greatest: 500,
+            increment: 1,
         },
         heart_rate: HeartRateRange {
             least: 60,
             greatest: 200,
+            increment: 1,
         },
     }
 }

@@ -24,19 +24,22 @@ fn number_of(outcome: Outcome) -> u8 {
     }
 }
 
-// Ranges from 0 to 0, except for the least speed, which may be above the greatest.
+// Ranges from 0 to 0 in steps of 1, except for the least speed, which may be above the greatest.
 pub(crate) fn ranges(least: u8) -> Ranges {
     let speed = SpeedRange {
         least: least as u16,
         greatest: 0,
+        increment: 1,
     };
     let signed = SignedRange {
         least: 0,
         greatest: 0,
+        increment: 1,
     };
     let heart_rate = HeartRateRange {
         least: 0,
         greatest: 0,
+        increment: 1,
     };
     Ranges {
         speed,

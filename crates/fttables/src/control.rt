@@ -161,7 +161,7 @@ fn put_result(out: &mut [u8], at: usize, which: u8) -> usize {
     let d = put_word(
         out,
         c,
-        b"the op code is not supported\nthe client does not hold control (but for 00)\nwrong length, a value outside its range, or 08 or 13 with neither 1 nor 2\n00 finds another holder, 07 finds running, 08 with 1 finds stopped, 08 with 2 finds anything but running, or 13 with 1 finds a run\notherwise: success\n",
+        b"the op code is not supported\nthe client does not hold control (but for 00)\nwrong length, a value outside its range or off its steps, or 08 or 13 with neither 1 nor 2\n00 finds another holder, 07 finds running, 08 with 1 finds stopped, 08 with 2 finds anything but running, or 13 with 1 finds a run\notherwise: success\n",
         which,
     );
     put_close(out, d)

@@ -1,5 +1,7 @@
-// What each write does to the machine in each state, as the calls answer; what a success does; the parameters' units; and the ranges.
+// What each write does to the machine in each state, as the calls answer; what a success does; the parameters' units; and the ranges, with the targets that
+// they admit.
 use crate::clients::holding;
+use crate::increments::print_steps;
 use output::first;
 use output::print;
 use output::print_octets;
@@ -150,19 +152,20 @@ fn print_target(op: u8) {
 }
 
 // "Ranges (least, greatest, both allowed) exist for speed u16, inclination s16, resistance s16, power s16, heart rate u8."
+// Of document 02: "Each range gets its increment, u16 (for heart rate u8)."
 fn print_ranges() {
     print(
-        b"\n## Ranges\n\n| range | least and greatest | op code | its parameter |\n|---|---|---|---|\n",
+        b"\n## Ranges\n\n| range | least and greatest | increment | op code | its parameter |\n|---|---|---|---|---|\n",
     );
-    print(b"| speed | u16 | 02 | ");
+    print(b"| speed | u16 | u16 | 02 | ");
     print_target(0x02);
-    print(b"| inclination | s16 | 03 | ");
+    print(b"| inclination | s16 | u16 | 03 | ");
     print_target(0x03);
-    print(b"| resistance | s16 | 04 | ");
+    print(b"| resistance | s16 | u16 | 04 | ");
     print_target(0x04);
-    print(b"| power | s16 | 05 | ");
+    print(b"| power | s16 | u16 | 05 | ");
     print_target(0x05);
-    print(b"| heart rate | u8 | 06 | ");
+    print(b"| heart rate | u8 | u8 | 06 | ");
     print_target(0x06);
 }
 
@@ -172,4 +175,5 @@ pub(crate) fn print_machine() {
     print_successes();
     print_units();
     print_ranges();
+    print_steps();
 }

@@ -5,6 +5,7 @@ mod clients;
 mod control;
 mod feature;
 mod header;
+mod increments;
 mod keys;
 mod kinds;
 mod machine;

@@ -45,7 +45,7 @@ pub(crate) fn put_when(out: &mut [u8], at: usize, which: u8) -> usize {
     put_word(
         out,
         at,
-        b"client above 3\nkind not 1 to 6\npayload not 20 to 512\nrecord not well formed\nlent output shorter than this answer\npart number not below the number of parts\nsome range has least above greatest, or the low target speed is not below the high one\nclient not connected; for connect, already connected\nwrite of no octets\nindications off (ATT FD)\na response awaits confirmation (ATT FE)\nconfirm by a client to whom no response is due\nFeature value not 8 octets\nnotification above 512 octets\nshorter than its flags\nshorter than flags and named groups\nfixed: a group not in the told set\nfixed: incomplete at the last part\ntold set has a bit not listed for the kind\ncapture above 65,536 octets\ncapture ends inside a length or notification\n",
+        b"client above 3\nkind not 1 to 6\npayload not 20 to 512\nrecord not well formed\nlent output shorter than this answer\npart number not below the number of parts\nsome range has least above greatest or an increment of 0, or the low target speed is not below the high one\nclient not connected; for connect, already connected\nwrite of no octets\nindications off (ATT FD)\na response awaits confirmation (ATT FE)\nconfirm by a client to whom no response is due\nFeature value not 8 octets\nnotification above 512 octets\nshorter than its flags\nshorter than flags and named groups\nfixed: a group not in the told set\nfixed: incomplete at the last part\ntold set has a bit not listed for the kind\ncapture above 65,536 octets\ncapture ends inside a length or notification\n",
         which,
     )
 }

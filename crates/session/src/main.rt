@@ -1,6 +1,6 @@
 // Two clients use a treadmill's control point, call by call, in the code that a maker's console
 // would have. The output is compared with the file `stdout`, which tools/session.py writes from
-// document 01 alone.
+// documents 01 and 02 alone.
 mod show;
 
 use crate::show::confirm;
@@ -33,27 +33,33 @@ const FEATURE: Feature = Feature {
         | 1 << Feature::TARGET_POWER,
 };
 
-// Speed 1 to 20 km/h, inclination -3 to 15 %, power up to 500 W.
+// Speed 1 to 20 km/h in steps of 0.1 km/h, inclination -3 to 15 % in steps of 0.5 %, and any power
+// up to 500 W.
 const RANGES: Ranges = Ranges {
     speed: SpeedRange {
         least: 100,
         greatest: 2000,
+        increment: 10,
     },
     inclination: SignedRange {
         least: -30,
         greatest: 150,
+        increment: 5,
     },
     resistance: SignedRange {
         least: 0,
         greatest: 0,
+        increment: 1,
     },
     power: SignedRange {
         least: 0,
         greatest: 500,
+        increment: 1,
     },
     heart_rate: HeartRateRange {
         least: 0,
         greatest: 0,
+        increment: 1,
     },
 };
 
@@ -70,7 +76,9 @@ const RESET: [u8; 1] = [0x01];
 
 const SPEED_1000: [u8; 3] = [0x02, 0xE8, 0x03];
 
-const SPEED_2001: [u8; 3] = [0x02, 0xD1, 0x07];
+const SPEED_1005: [u8; 3] = [0x02, 0xED, 0x03];
+
+const SPEED_2010: [u8; 3] = [0x02, 0xDA, 0x07];
 
 const RESISTANCE_50: [u8; 2] = [0x04, 0x32];
 
@@ -80,7 +88,8 @@ const STOP: [u8; 2] = [0x08, 0x01];
 
 const PAUSE: [u8; 2] = [0x08, 0x02];
 
-// Client 0 takes control and sets a speed; one above the range is answered 03.
+// Client 0 takes control and sets a speed; one between two steps is answered 03, and so is one
+// above the range. The speed that was set stays.
 fn begin(opened: Console) -> Console {
     let mut console = connect(opened, 0);
     console = turn_indications_on(console, 0);
@@ -90,7 +99,9 @@ fn begin(opened: Console) -> Console {
     console = write(console, 0, &SPEED_1000);
     state(b"now: ", console);
     console = confirm(console, 0);
-    console = write(console, 0, &SPEED_2001);
+    console = write(console, 0, &SPEED_1005);
+    console = confirm(console, 0);
+    console = write(console, 0, &SPEED_2010);
     confirm(console, 0)
 }
 

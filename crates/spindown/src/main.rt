@@ -30,27 +30,32 @@ const FEATURE: Feature = Feature {
     targets: 1 << Feature::TARGET_SPIN_DOWN,
 };
 
-// No target can be set, so every range is 0 to 0.
+// No target can be set, so every range is 0 to 0, in steps of 1.
 const RANGES: Ranges = Ranges {
     speed: SpeedRange {
         least: 0,
         greatest: 0,
+        increment: 1,
     },
     inclination: SignedRange {
         least: 0,
         greatest: 0,
+        increment: 1,
     },
     resistance: SignedRange {
         least: 0,
         greatest: 0,
+        increment: 1,
     },
     power: SignedRange {
         least: 0,
         greatest: 0,
+        increment: 1,
     },
     heart_rate: HeartRateRange {
         least: 0,
         greatest: 0,
+        increment: 1,
     },
 };
 
