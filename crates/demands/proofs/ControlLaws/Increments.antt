@@ -92,7 +92,7 @@ module _ (r : Range) (x : ℤ) where
       let d : distance (r .least) x ≡ n = ap (distance (r .least)) (s .reached) ∙ distance-up (r .least) n in
       rw (h, s .not-above, d) (multiple-times (r .increment) (s .steps))
 
-  -- "a range with an increment of 1 admits exactly what lies in it"
+  -- a range with an increment of 1 admits exactly what lies in it
   pub unstepped : r .increment ≡ 1 → admits r x ≡ lies-in r x
   unstepped e = elim (tested inside) [
     | failed f ↦ rw f

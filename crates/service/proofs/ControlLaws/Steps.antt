@@ -32,7 +32,7 @@ difference (negsuc a) (negsuc b) h = sub-plain (suc a) (suc b) (suc-le-suc (leb-
 pub distance-gap : (a b : ℤ) → leZ a b ≡ true → distance a b ≡ gap a b
 distance-gap a b h = ap natAbs (difference a b h)
 
--- "the distance reaches 65,535": two numbers of s16 are at most so far apart
+-- two numbers of s16 are at most 65,535 apart
 gap-below : (a b : ℤ) → SFits w16 a → SFits w16 b → gap a b < 65536
 gap-below (pos a) (pos b) f g = let q : b < 32768 = g .sfits in omega arith
 gap-below (pos a) (negsuc b) f g = omega arith
