@@ -34,6 +34,7 @@ use Rattle.demands.specs.Control.Laws.{Sound, stores, by, result-in, hol
 use Rattle.demands.specs.Control.History.{mode-by, awaited-by, connected-by, indicating-by}
 use Rattle.demands.specs.Control.Runs.{led-by, run-of, words, spoken}
 use Rattle.demands.specs.Control.Answered.{answer-by, OctetIn}
+use Rattle.demands.specs.Control.Increments.{Target, op, GrantsSteps, Settled}
 use Rattle.demands.proofs.ControlLaws.Kept.{sound-step, sound-after}
 use Rattle.demands.proofs.ControlLaws.Changes.{refusals, by-another}
 use Rattle.demands.proofs.ControlLaws.History.{holder-by-history}
@@ -42,6 +43,8 @@ use Rattle.demands.proofs.ControlLaws.Runs.{run-by-history, says-by-run
 use Rattle.demands.proofs.ControlLaws.Answered.{answers-by-history}
 use Rattle.demands.proofs.ControlLaws.Settings.{setting-by-history, granted-to-holder}
 use Rattle.demands.proofs.ControlLaws.Alive.{alive-after}
+use Rattle.demands.proofs.ControlLaws.Demanded.{answers-told}
+use Rattle.demands.proofs.ControlLaws.Targets.{grants-steps, settings-settled}
 use Rattle.demands.proofs.ControlLaws.Meets.{by-reading, read-same}
 
 -- the console that a reply to an opening gives, unless it refuses
@@ -118,6 +121,10 @@ ours-answers p h = by-reading p (record {
   moves = λ k q. ap (λ (x : Answer Sent × Console). x .1) (steps-alike (h .steps k q));
 })
 
+-- it grants the targets on the steps and no others
+pub ours-grants : (p : Point Console) → ByContract p → GrantsSteps p
+ours-grants p h = grants-steps p (answers-told p (ours-answers p h))
+
 -- ---- sequences of calls of the code
 
 pub data Ran : Console → List Event → List Call → List Event × Console → Type 0 where
@@ -163,6 +170,11 @@ ours-lawful {o} {k} {qs} d ran =
       spoken-so = says-by-run o k e qs;
       alive = λ c h. alive-after o k e qs c h;
     })
+
+-- each of the five targets is zero, or on a step of the range that the machine was opened with
+pub ours-settled : {o : Opening} {k : Console} {qs : List Call} {z : List Event × Console} → DidOpen o (given k) → Ran k [] qs z →
+    (t : Target) → Settled (o .ranges) t (setting (z .1 .machine) (op t))
+ours-settled {o} {k} {qs} d ran t = rw (runs-alike ran) (settings-settled o k (sym (opens-alike d)) qs t)
 
 -- and whatever the code answers next is what the history and the rules of the op codes say
 pub ours-answered : {o : Opening} {k : Console} {qs : List Call} {z : List Event × Console} {q : Call} {x : Answer Sent × Console} →
