@@ -1,8 +1,10 @@
--- Lines of the op codes, by computation: document 01's numbers, and W-201's.
+-- Lines of the op codes, by computation: document 01's numbers, W-201's and W-206's.
 use mathlib.Core.Path.{_≡_, refl}
 use Prim.Native.Nat.{ℕ}
 use mathlib.Core.Bool.{Bool, true, false}
-use mathlib.Core.List.{List, [], _∷_, _++_}
+use mathlib.Core.List.{List, [], _∷_, _++_, map}
+use lib.IntN.{ℤ, pos, negsuc}
+use lib.ListN.{replicate}
 use Rattle.record.specs.Octets.{spelled, number}
 use Rattle.record.specs.declared.layout.Width.{Width}
 use Rattle.record.specs.declared.layout.Width.the-variants.{U8, U16, U24, S16}
@@ -19,8 +21,11 @@ use Rattle.service.specs.declared.control.judging.WriteResult.the-varian
 use Rattle.service.specs.declared.control.spin_down.TargetSpeeds.{TargetSpeeds}
 use Rattle.service.specs.declared.control.spin_down.Run.{Run}
 use Rattle.service.specs.declared.control.spin_down.Run.the-variants.{Off, Quiet}
+use Rattle.service.specs.declared.control.ranges.Ranges.{Ranges}
+use Rattle.service.specs.Control.Ranges.{Range, of-speed, of-signed, of-heart-rate, admits, is-range}
 use Rattle.service.specs.Control.OpCodes.{known, op-code}
 use Rattle.service.specs.Control.SpinDown.{on, said-at, run-at}
+use Rattle.service.specs.Control.Console.{closed}
 use Rattle.service.specs.Control.Effects.{response-octets, success-followed, success-status, setting}
 
 abbrev parameter : Lookup → List Width
@@ -91,3 +96,32 @@ pub courses :
     (course Quiet (65535 ∷ 0 ∷ []) ≡ ([] ∷ (0x14 ∷ 2 ∷ []) ∷ [], false)) ×
     (course Off (2000 ∷ 1000 ∷ []) ≡ ([] ∷ [] ∷ [], false))
 courses = (refl, refl, refl, refl, refl)
+
+-- W-206, in numbers: 1,000 to 2,000 in steps of 10; −32,768 to 32,767 in steps of 65,535, both ends and nothing between; the greatest off the steps;
+-- −5 to 3 in steps of 2; an increment of 0
+abbrev span : ℤ → ℤ → ℕ → Range
+span a b i = record { least = a; greatest = b; increment = i }
+
+pub on-steps :
+    (map (admits (span (pos 1000) (pos 2000) 10)) (pos 990 ∷ pos 1000 ∷ pos 1005 ∷ pos 1010 ∷ pos 2000 ∷ pos 2010 ∷ []) ≡
+    false ∷ true ∷ false ∷ true ∷ true ∷ false ∷ []) ×
+    (map (admits (span (negsuc 32767) (pos 32767) 65535)) (negsuc 32767 ∷ negsuc 32766 ∷ negsuc 0 ∷ pos 0 ∷ pos 32766 ∷ pos 32767 ∷ []) ≡
+    true ∷ false ∷ false ∷ false ∷ false ∷ true ∷ []) ×
+    (map (admits (span (pos 0) (pos 25) 10)) (pos 0 ∷ pos 20 ∷ pos 25 ∷ pos 30 ∷ []) ≡ true ∷ true ∷ false ∷ false ∷ []) ×
+    (map (admits (span (negsuc 4) (pos 3) 2)) (negsuc 4 ∷ pos 0 ∷ pos 1 ∷ pos 2 ∷ pos 3 ∷ pos 4 ∷ []) ≡ true ∷ false ∷ true ∷ false ∷ true ∷ false ∷ []) ×
+    (map is-range (span (pos 0) (pos 25) 10 ∷ span (pos 0) (pos 25) 0 ∷ span (pos 25) (pos 25) 1 ∷ span (pos 26) (pos 25) 1 ∷ []) ≡
+    true ∷ false ∷ true ∷ false ∷ [])
+on-steps = (refl, refl, refl, refl, refl)
+
+-- the console of a refused opening: each number of its ranges, and each target speed, is 0
+abbrev parts : Range → List ℤ
+parts r = r .least ∷ r .greatest ∷ pos (r .increment) ∷ []
+
+abbrev numbers : Ranges → List ℤ
+numbers r =
+    parts (of-speed (r .speed)) ++ parts (of-signed (r .inclination)) ++ parts (of-signed (r .resistance)) ++ parts (of-signed (r .power)) ++
+    parts (of-heart-rate (r .«heart_rate»))
+
+pub closed-numbers :
+    (numbers (closed .machine .setup .ranges) ≡ replicate 15 (pos 0)) × (closed .machine .setup .speeds .low ≡ 0) × (closed .machine .setup .speeds .high ≡ 0)
+closed-numbers = (refl, refl, refl)
