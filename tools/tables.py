@@ -91,7 +91,7 @@ LEAVES = {
     "reading a Feature value": "nothing: the call has no state",
     "opening a collection": "a collection that holds nothing, not to be used",
     "collecting a notification": "11: the collection as it was; 30 to 34: nothing held",
-    "opening a machine": "a console with no target setting, every range 0 (least, greatest and increment) and both target speeds 0, not to be used",
+    "opening a machine": "a console with no target setting, its ranges and target speeds all 0, not to be used",
     "connect": CONSOLE, "disconnect": CONSOLE, "indications": CONSOLE, "write": CONSOLE, "confirm": CONSOLE,
     "listing a capture": "the lent octets as they were",
     "a line of a listing": "36, 11 and 37: the listing ends; 30 to 32: nothing held, and the listing goes on",
@@ -206,11 +206,11 @@ STEPS = [
     ("power", -32768, 32767, 65535, {-32768: "01", -1: "03", 32767: "01"}),
     ("heart rate", 0, 25, 10, {20: "01", 25: "03"}),
     ("heart rate", 60, 70, 20, {60: "01", 70: "03"}),
-    ("speed", 1000, 2000, 0, {1000: "refusal 16"}),
-    ("inclination", -30, 150, 0, {-30: "refusal 16"}),
-    ("resistance", -5, 3, 0, {0: "refusal 16"}),
-    ("power", 0, 500, 0, {0: "refusal 16"}),
-    ("heart rate", 60, 200, 0, {60: "refusal 16"}),
+    ("speed", 1000, 2000, 0, {1000: "refused 16"}),
+    ("inclination", -30, 150, 0, {-30: "refused 16"}),
+    ("resistance", -5, 3, 0, {0: "refused 16"}),
+    ("power", 0, 500, 0, {0: "refused 16"}),
+    ("heart rate", 60, 200, 0, {60: "refused 16"}),
 ]
 
 
@@ -235,7 +235,7 @@ def admitted(least, greatest, increment, target):
 def answer(least, greatest, increment, target):
     """"Refusals: 16 also for an increment of 0; result 03 also for a target off the steps." """
     if increment == 0:
-        return "refusal 16"
+        return "refused 16"
     return "01" if admitted(least, greatest, increment, target) else "03"
 
 
@@ -258,7 +258,7 @@ def machine():
     table(["range", "least and greatest", "increment", "op code", "its parameter"],
           [(RANGES[op], width, INCREMENTS[op], "%02X" % op, parameter(names[op])[0]) for op, width in WIDTHS.items()])
     print("\n## Steps\n")
-    table(["range", "least", "greatest", "increment", "target", "result"], step_rows())
+    table(["range", "least", "greatest", "increment", "target", "answer"], step_rows())
 
 
 def keys():

@@ -58,7 +58,7 @@ fn print_answer(ranges: Ranges, octets: &[u8]) {
     print(b" |");
     match outcome {
         Outcome::Done => print_result(reply.console, octets),
-        Outcome::Refused(refusal) => print_number(b" refusal ", refusal.number() as u64),
+        Outcome::Refused(refusal) => print_number(b" refused ", refusal.number() as u64),
     }
     print(b" |\n");
 }
@@ -204,7 +204,7 @@ fn print_refused() {
 
 pub(crate) fn print_steps() {
     print(
-        b"\n## Steps\n\n| range | least | greatest | increment | target | result |\n|---|---|---|---|---|---|\n",
+        b"\n## Steps\n\n| range | least | greatest | increment | target | answer |\n|---|---|---|---|---|---|\n",
     );
     print_speeds();
     print_signed_ranges();

@@ -38,7 +38,7 @@ fn put_left(out: &mut [u8], at: usize, call: u8) -> usize {
     put_word(
         out,
         at,
-        b"the lent octets as they were\nthe lent octets and numbers as they were\nthe lent numbers as they were\nnothing: the call has no state\na collection that holds nothing, not to be used\n11: the collection as it was; 30 to 34: nothing held\na console with no target setting, every range 0 (least, greatest and increment) and both target speeds 0, not to be used\nthe console as it was\nthe console as it was\nthe console as it was\nthe console as it was\nthe console as it was\nthe lent octets as they were\n36, 11 and 37: the listing ends; 30 to 32: nothing held, and the listing goes on\n",
+        b"the lent octets as they were\nthe lent octets and numbers as they were\nthe lent numbers as they were\nnothing: the call has no state\na collection that holds nothing, not to be used\n11: the collection as it was; 30 to 34: nothing held\na console with no target setting, its ranges and target speeds all 0, not to be used\nthe console as it was\nthe console as it was\nthe console as it was\nthe console as it was\nthe console as it was\nthe lent octets as they were\n36, 11 and 37: the listing ends; 30 to 32: nothing held, and the listing goes on\n",
         call,
     )
 }
