@@ -8,7 +8,9 @@ use lib.Dec.{eqb}
 use lib.ListN.{length}
 use lib.IntN.{ℤ, pos, negsuc, natAbs}
 use lib.Signed.{leZ}
+use Rattle.record.specs.declared.feature.Feature.{Feature}
 use Rattle.record.specs.Answer.{Answer, refused, given}
+use Rattle.record.specs.Feature.{feature-of}
 use Rattle.record.specs.Octets.{number, signed}
 use Rattle.record.proofs.Tests.{passed, failed, tested}
 use Rattle.service.specs.Control.Ranges.{Range, distance, multiple, admits}
@@ -17,10 +19,10 @@ use Rattle.demands.specs.Control.Point.{Call, write, Point, run, Answers
 use Rattle.demands.specs.Control.Laws.{result-in}
 use Rattle.demands.specs.Control.Worked.Stepped.{treadmill}
 use Rattle.demands.specs.Control.Answered.{reversed, no-step, refusal-by}
-use Rattle.demands.specs.Control.Increments.{OnStep, AllowsSteps, speed, range-of, lies-in}
+use Rattle.demands.specs.Control.Increments.{OnStep, AllowsSteps, MaySet, speed, range-of, lies-in}
 use Rattle.demands.proofs.ControlLaws.Increments.{allows-steps, judges-agree}
 use Rattle.demands.proofs.ControlLaws.Demanded.{answers-told}
-use Rattle.demands.proofs.ControlLaws.Targets.{grants-steps}
+use Rattle.demands.proofs.ControlLaws.Targets.{grants-steps, decides-steps}
 
 -- ---- judges
 
@@ -106,6 +108,19 @@ module _ {S : Type 0} (p : Point S) where
       let t : OnStep (range-of treadmill speed) (pos 1005) = subst (λ r. OnStep (range-of r speed) (pos 1005)) r s in
       let n : _≡_ {A = ℕ} 1005 (1000 + t .steps * 10) = ap natAbs (t .reached) in
       omega arith
+
+  -- one that answers 1,005 of a client that may set a speed with anything but 03
+  pub not-otherwise : (o : Opening) (f : Feature) → feature-of (o .feature) ≡ given f → o .ranges ≡ treadmill → (x : S) → p .opening o ≡ given x →
+      (qs : List Call) (c : ℕ) → MaySet f (run p x [] qs .0) c speed →
+      (result-in (p .calling (run p x [] qs .1) (write c (0x02 ∷ 0xed ∷ 0x03 ∷ [])) .0) ≡ 0x03 → ⊥) → Answers p → ⊥
+  unfolding number
+  not-otherwise o f e r x h qs c m n a = n (decides-steps p (answers-told p a) .declines o f e x h qs c speed (0xed ∷ 0x03 ∷ []) m (λ l s. off s))
+    where
+      off : OnStep (range-of (o .ranges) speed) (pos 1005) → ⊥
+      off s =
+          let t : OnStep (range-of treadmill speed) (pos 1005) = subst (λ r. OnStep (range-of r speed) (pos 1005)) r s in
+          let d : _≡_ {A = ℕ} 1005 (1000 + t .steps * 10) = ap natAbs (t .reached) in
+          omega arith
 
   -- one that declines 1,010 with 03
   pub not-short-of-steps : (o : Opening) → o .ranges ≡ treadmill → (x : S) → p .opening o ≡ given x → (qs : List Call) (c : ℕ) →

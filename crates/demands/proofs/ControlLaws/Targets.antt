@@ -1,6 +1,6 @@
 -- W-206 over every sequence of calls: a control point that answers by its history grants the targets on the steps and no others, and every setting is
 -- zero or on a step.
-use Prim.Native.Nat.{ℕ, suc, _≤_}
+use Prim.Native.Nat.{ℕ, suc, _-_, _≤_}
 use mathlib.Core.Path.{_≡_, refl, sym, ap, subst, _∙_}
 use mathlib.Core.Bool.{Bool, true, false, not, cond, _&&_, _||_, true≢false}
 use mathlib.Core.List.{List, [], _∷_}
@@ -10,7 +10,8 @@ use lib.ListN.{length, replicate}
 use Rattle.record.specs.declared.feature.Feature.{Feature}
 use Rattle.record.specs.Answer.{Answer, refused, given}
 use Rattle.record.specs.Feature.{words, named, feature-of}
-use Rattle.record.proofs.Tests.{passed, failed, tested, eqb-eq, eqb-same, and-l, and-r}
+use Rattle.record.specs.Groups.{has}
+use Rattle.record.proofs.Tests.{passed, failed, tested, eqb-eq, eqb-same, ltb-false, and-l, and-r}
 use Rattle.service.specs.declared.control.Console.{Console}
 use Rattle.service.specs.declared.control.ranges.Ranges.{Ranges}
 use Rattle.service.specs.declared.control.machine.Setup.{Setup}
@@ -36,7 +37,7 @@ use Rattle.demands.specs.Control.Rules as rule
 use Rattle.demands.specs.Control.Rules.{stepped}
 use Rattle.demands.specs.Control.Answered.{answer-by, refusal-by, AnswersByHistory}
 use Rattle.demands.specs.Control.Increments as increments
-use Rattle.demands.specs.Control.Increments.{OnStep, Target, speed, inclination, resistance, power, heart-rate, op, octets, number-in, range-of, GrantsSteps, Settled}
+use Rattle.demands.specs.Control.Increments.{OnStep, Target, speed, inclination, resistance, power, heart-rate, op, octets, number-in, range-of, GrantsSteps, MaySet, DecidesSteps, Settled}
 use Rattle.demands.proofs.ControlLaws.Changes.{fixed-at-opening}
 use Rattle.demands.proofs.ControlLaws.Kept.{opened-first, run-keeps, sound-after}
 use Rattle.demands.proofs.ControlLaws.Increments.{stepped-so, allows-steps}
@@ -170,6 +171,71 @@ module _ {S : Type 0} (p : Point S) (a : AnswersByHistory p) (o : Opening) (x : 
 
 pub grants-steps : {S : Type 0} (p : Point S) → AnswersByHistory p → GrantsSteps p
 grants-steps p a = record { granted = only-granted p a; declined = only-declined p a }
+
+-- ---- a client whose target is judged by its number
+
+target-supported : (n : ℕ) (t : Target) → rule.supported n (op t) ≡ has n (op t - 2)
+target-supported n speed = refl
+target-supported n inclination = refl
+target-supported n resistance = refl
+target-supported n power = refl
+target-supported n heart-rate = refl
+
+target-controlled : (b : Bool) (t : Target) → (eqb (op t) 0x00 || b) ≡ b
+target-controlled b speed = refl
+target-controlled b inclination = refl
+target-controlled b resistance = refl
+target-controlled b power = refl
+target-controlled b heart-rate = refl
+
+-- no target has result 04
+target-fails : (s : Setup) (h : Who) (m : Mode) (g : Bool) (c : ℕ) (t : Target) (w : List ℕ) → rule.fails s h m g c (op t) w ≡ false
+target-fails s h m g c speed w = refl
+target-fails s h m g c inclination w = refl
+target-fails s h m g c resistance w = refl
+target-fails s h m g c power w = refl
+target-fails s h m g c heart-rate w = refl
+
+module _ (s : Setup) (past : List Event) (c : ℕ) (t : Target) (w : List ℕ) (m : MaySet (s .feature) past c t) where
+  abbrev right : Bool
+  right = eqb (length w) (rule.size (op t)) && rule.allowed (s .ranges) (op t) w
+
+  judged-by-number : result-in (answer-by s past (write c (op t ∷ w))) ≡ cond (not right) 0x03 0x01
+  judged-by-number =
+      let h : Who = holder-by past [] in
+      let g : Bool = led-by (s .speeds) past .on in
+      let i : rule.supported (s .feature .targets) (op t) ≡ true = target-supported (s .feature .targets) t ∙ m .able in
+      let j : (eqb (op t) 0x00 || is h c) ≡ true = target-controlled (is h c) t ∙ ap (λ (x : Who). is x c) (m .holds) ∙ eqb-same c in
+      let k : result-in (answer-by s past (write c (op t ∷ w))) ≡ rule.result s h (mode-by past) g c (op t) w =
+      rw (ltb-false 3 c (m .small), m .joined, some-octet s past c (op t) 0 w, m .shown, m .clear) in
+      k ∙ (λ n. cond (not (i n)) 0x02 (cond (not (j n)) 0x05 (cond (not right) 0x03 (cond (target-fails s h (mode-by past) g c t w n) 0x04 0x01))))
+
+  right-on-step : length w ≡ octets t → OnStep (range-of (s .ranges) t) (number-in t w) → right ≡ true
+  right-on-step n r =
+      let i : eqb (length w) (rule.size (op t)) ≡ true = rw (n ∙ sym (target-size t)) (eqb-same (rule.size (op t))) in
+      let j : rule.allowed (s .ranges) (op t) w ≡ true = target-admits (s .ranges) t w ∙ allows-steps .each (range-of (s .ranges) t) (number-in t w) r in
+      rw (i, j)
+
+  wrong-off-steps : (length w ≡ octets t → OnStep (range-of (s .ranges) t) (number-in t w) → ⊥) → right ≡ false
+  wrong-off-steps n = elim (tested (eqb (length w) (rule.size (op t)))) [
+    | failed e ↦ rw e
+    | passed e ↦ elim (tested (rule.allowed (s .ranges) (op t) w)) [
+      | failed f ↦ rw (e, f)
+      | passed f ↦
+          absurd (n (eqb-eq (length w) (rule.size (op t)) e ∙ target-size t)
+          (allows-steps .only (range-of (s .ranges) t) (number-in t w) (sym (target-admits (s .ranges) t w) ∙ f)))
+    ]
+  ]
+
+pub decides-steps : {S : Type 0} (p : Point S) → AnswersByHistory p → DecidesSteps p
+decides-steps p a = record {
+  grants = λ o f e x h qs c t w m n r.
+      ap result-in (a .answers o f e x h qs (write c (op t ∷ w)) (target-octet t)) ∙ judged-by-number (setup-of f o) (run p x [] qs .0) c t w m ∙
+      ap (λ (b : Bool). cond (not b) 0x03 0x01) (right-on-step (setup-of f o) (run p x [] qs .0) c t w m n r);
+  declines = λ o f e x h qs c t w m n.
+      ap result-in (a .answers o f e x h qs (write c (op t ∷ w)) (target-octet t)) ∙ judged-by-number (setup-of f o) (run p x [] qs .0) c t w m ∙
+      ap (λ (b : Bool). cond (not b) 0x03 0x01) (wrong-off-steps (setup-of f o) (run p x [] qs .0) c t w m n);
+}
 
 -- ---- every setting
 

@@ -1,21 +1,27 @@
 -- W-206: "A target is allowed when it is in the range and its distance from the least value is a multiple of the increment.": the same in other words,
 -- for a judge of targets, for any control point and for every setting; and what it is without steps.
-use Prim.Native.Nat.{ℕ, suc, _*_}
+use Prim.Native.Nat.{ℕ, _-_, _*_, _≤_}
 use mathlib.Core.Path.{_≡_}
-use mathlib.Core.Bool.{Bool, true, _&&_}
+use mathlib.Core.Bool.{Bool, true, false, _&&_}
 use mathlib.Core.List.{List, [], _∷_}
 use lib.IntN.{ℤ, pos, _+ℤ_}
 use lib.ListN.{length, replicate}
 use lib.Signed.{leZ}
+use Rattle.record.specs.declared.feature.Feature.{Feature}
 use Rattle.record.specs.Answer.{given}
+use Rattle.record.specs.Feature.{feature-of}
+use Rattle.record.specs.Groups.{has}
 use Rattle.record.specs.Octets.{number, signed}
 use Rattle.service.specs.declared.control.ranges.Ranges.{Ranges}
+use Rattle.service.specs.declared.control.machine.Who.the-variants.{Client}
 use Rattle.service.specs.declared.control.op_codes.Bound.{Bound}
 use Rattle.service.specs.declared.control.op_codes.Bound.the-variants.{Free, Speed, Inclination, Resistance, Power, HeartRate, OneOrTwo}
 use Rattle.service.specs.Control.Ranges.{Range, of-speed, of-signed, of-heart-rate, in-range, value}
+use Rattle.service.specs.Control.Machine.{someone}
 use Rattle.service.specs.Control.Calls.{Opening}
-use Rattle.demands.specs.Control.Point.{Call, write, Point, run}
-use Rattle.demands.specs.Control.Laws.{result-in}
+use Rattle.demands.specs.Control.Point.{Call, write, Point, Event, run}
+use Rattle.demands.specs.Control.Laws.{result-in, holder-by}
+use Rattle.demands.specs.Control.History.{awaited-by, connected-by, indicating-by}
 
 -- ---- a judge of targets
 
@@ -64,13 +70,32 @@ range-of r resistance = of-signed (r .resistance)
 range-of r power = of-signed (r .power)
 range-of r heart-rate = of-heart-rate (r .«heart_rate»)
 
--- "result 03 also for a target off the steps": after every opening and every sequence of calls a target that is granted, by result 01, is on a step of the
+-- after every opening and every sequence of calls a target that is granted, by result 01, is on a step of the
 -- range that the control point was opened with, and one of its right length that is answered 03 is not
 pub record GrantsSteps {S : Type 0} (p : Point S) : Type 0 where
   pub granted : (o : Opening) (x : S) → p .opening o ≡ given x → (qs : List Call) (c : ℕ) (t : Target) (w : List ℕ) →
       result-in (p .calling (run p x [] qs .1) (write c (op t ∷ w)) .0) ≡ 0x01 → (length w ≡ octets t) × OnStep (range-of (o .ranges) t) (number-in t w)
   pub declined : (o : Opening) (x : S) → p .opening o ≡ given x → (qs : List Call) (c : ℕ) (t : Target) (w : List ℕ) →
       result-in (p .calling (run p x [] qs .1) (write c (op t ∷ w)) .0) ≡ 0x03 → length w ≡ octets t → OnStep (range-of (o .ranges) t) (number-in t w) → ⊥
+
+-- by the history a client's target is judged by its number: the client is one of the four and connected, its indications are on, no response is due, it
+-- holds control, and the machine has the target's bit: "02 to 06 need target bits 0 to 4"
+pub record MaySet (f : Feature) (past : List Event) (c : ℕ) (t : Target) : Type 0 where
+  pub small : c ≤ 3
+  pub joined : connected-by c past ≡ true
+  pub shown : indicating-by c past ≡ true
+  pub clear : someone (awaited-by past) ≡ false
+  pub holds : holder-by past [] ≡ Client c
+  pub able : has (f .targets) (op t - 2) ≡ true
+
+-- "result 03 also for a target off the steps": such a client's target is answered 01 if it has its right length and is on a step, and 03 if not
+pub record DecidesSteps {S : Type 0} (p : Point S) : Type 0 where
+  pub grants : (o : Opening) (f : Feature) → feature-of (o .feature) ≡ given f → (x : S) → p .opening o ≡ given x → (qs : List Call) (c : ℕ) (t : Target)
+      (w : List ℕ) → MaySet f (run p x [] qs .0) c t → length w ≡ octets t → OnStep (range-of (o .ranges) t) (number-in t w) →
+      result-in (p .calling (run p x [] qs .1) (write c (op t ∷ w)) .0) ≡ 0x01
+  pub declines : (o : Opening) (f : Feature) → feature-of (o .feature) ≡ given f → (x : S) → p .opening o ≡ given x → (qs : List Call) (c : ℕ) (t : Target)
+      (w : List ℕ) → MaySet f (run p x [] qs .0) c t → (length w ≡ octets t → OnStep (range-of (o .ranges) t) (number-in t w) → ⊥) →
+      result-in (p .calling (run p x [] qs .1) (write c (op t ∷ w)) .0) ≡ 0x03
 
 -- "Reset still sets zero, whether or not zero is allowed.": a setting is zero, or on a step of its range
 pub data Settled (r : Ranges) (t : Target) (p : List ℕ) : Type 0 where

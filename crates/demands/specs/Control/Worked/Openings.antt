@@ -47,8 +47,8 @@ abbrev pub at-first : Answer State
 at-first = given (state Stopped Nobody Nobody [] [] [])
 
 -- each range alone reversed, by one and by sign, with all target settings, speed's with none too; ranges of one number; the Feature value's length; low
--- and high, with all target settings and with none; each increment alone 0, also in a range of one number, in a reversed one and with no target setting,
--- and increments at their greatest
+-- and high, with all target settings and with none; each increment alone 0, with all target settings and with none; one of 0 in a reversed range and in a
+-- range of one number; every one 0, with 7 octets; increments at their greatest, and steps that miss the greatest value
 abbrev pub openings : List Case
 openings =
     (able fair opens at-first) ∷
@@ -83,6 +83,10 @@ openings =
     (able (by 1 1 1 1 0 fair) opens refused 16) ∷
     (able (by 0 1 1 1 1 swift) opens refused 16) ∷
     (able (by 1 1 0 1 1 (between 300 300 (negsuc 2) (negsuc 2) (pos 7) (pos 7) (negsuc 0) (negsuc 0) 80 80)) opens refused 16) ∷
+    (with-octets 8 (by 0 1 1 1 1 fair) opens refused 16) ∷
+    (with-octets 8 (by 1 0 1 1 1 fair) opens refused 16) ∷
+    (with-octets 8 (by 1 1 0 1 1 fair) opens refused 16) ∷
+    (with-octets 8 (by 1 1 1 0 1 fair) opens refused 16) ∷
     (with-octets 8 (by 1 1 1 1 0 fair) opens refused 16) ∷
     (with-octets 7 (by 0 0 0 0 0 fair) opens refused 22) ∷
     (able (by 65535 65535 65535 65535 255 fair) opens at-first) ∷

@@ -10,7 +10,7 @@ use Rattle.service.specs.Control.Replies.{sent}
 use Rattle.demands.specs.Control.Point.{write, confirm}
 use Rattle.demands.specs.Control.Cases.{asks, holds}
 use Rattle.demands.specs.Control.Worked.Seen.{state, row, Row, Table, table}
-use Rattle.demands.specs.Control.Worked.Ends.{between, able, takes, declines, standing, stored}
+use Rattle.demands.specs.Control.Worked.Ends.{between, able, takes, declines, standing, stored, at-ends}
 
 -- the increments of speed, inclination, resistance, power and heart rate
 abbrev pub by : ℕ → ℕ → ℕ → ℕ → ℕ → Ranges → Ranges
@@ -72,6 +72,7 @@ off-the-end =
     takes 0x03 (0xf1 ∷ 0xff ∷ []) 0x06 ((0x03, 0xf1 ∷ 0xff ∷ []) ∷ []) ∷
     takes 0x03 (0xfb ∷ 0xff ∷ []) 0x06 ((0x03, 0xfb ∷ 0xff ∷ []) ∷ []) ∷
     declines 0x03 (0x00 ∷ 0x00 ∷ []) [] ∷
+    declines 0x03 (0x05 ∷ 0x00 ∷ []) [] ∷
     declines 0x04 (0 ∷ []) [] ∷
     takes 0x04 (1 ∷ []) 0x07 ((0x04, 1 ∷ []) ∷ []) ∷
     declines 0x04 (2 ∷ []) [] ∷
@@ -84,12 +85,15 @@ off-the-end =
     takes 0x05 (0x01 ∷ 0x00 ∷ []) 0x08 ((0x05, 0x01 ∷ 0x00 ∷ []) ∷ []) ∷
     takes 0x05 (0x0d ∷ 0x00 ∷ []) 0x08 ((0x05, 0x0d ∷ 0x00 ∷ []) ∷ []) ∷
     declines 0x05 (0x0f ∷ 0x00 ∷ []) [] ∷
+    declines 0x05 (0x11 ∷ 0x00 ∷ []) [] ∷
     takes 0x06 (20 ∷ []) 0x09 ((0x06, 20 ∷ []) ∷ []) ∷
     declines 0x06 (25 ∷ []) [] ∷
+    declines 0x06 (30 ∷ []) [] ∷
     declines 0x06 (5 ∷ []) [] ∷ [])
 
--- an increment above what the range spans, by one, and equal to it: the least alone; both ends. Speed from 100 to 150 in steps of 51, inclination from
--- −1 to 1 in steps of 2, resistance from 5 to 50 in steps of 65,535, power from −500 to 1,200 in steps of 1,700, heart rate from 60 to 200 in steps of 255
+-- an increment above the distance between the ends, so that the least value alone is allowed: speed from 100 to 150 in steps of 51, resistance from 5 to 50
+-- in steps of 65,535, heart rate from 60 to 200 in steps of 255; and one equal to it, so that both ends are and nothing between: inclination from −1 to 1 in
+-- steps of 2, power from −500 to 1,200 in steps of 1,700
 abbrev pub longest : Table
 longest =
     table (able (by 51 2 65535 1700 255 (between 100 150 (negsuc 0) (pos 1) (pos 5) (pos 50) (negsuc 499) (pos 1200) 60 200))) (holds 0) (sent [] []) (standing [])
@@ -110,8 +114,34 @@ longest =
     declines 0x06 (61 ∷ []) [] ∷
     declines 0x06 (200 ∷ []) [] ∷ [])
 
+-- increments and distances of each length, no two increments alike: speed from 0 to 65,535 in steps of 40,000, inclination from −1,000 to 1,000 in steps of
+-- 300, resistance from −32,768 to 255 in steps of 32,769, power from −1,000 to 1,000 in steps of 700, heart rate from 0 to 255 in steps of 200
+abbrev pub wide : Table
+wide =
+    table (able (by 40000 300 32769 700 200 (between 0 65535 (negsuc 999) (pos 1000) (negsuc 32767) (pos 255) (negsuc 999) (pos 1000) 0 255))) (holds 0) (sent [] []) (standing [])
+    (takes 0x02 (0x40 ∷ 0x9c ∷ []) 0x05 ((0x02, 0x40 ∷ 0x9c ∷ []) ∷ []) ∷
+    declines 0x02 (0x40 ∷ 0x00 ∷ []) [] ∷
+    declines 0x02 (0xff ∷ 0xff ∷ []) [] ∷
+    takes 0x03 (0x70 ∷ 0xfe ∷ []) 0x06 ((0x03, 0x70 ∷ 0xfe ∷ []) ∷ []) ∷
+    declines 0x03 (0xb8 ∷ 0x04 ∷ []) [] ∷
+    takes 0x04 (1 ∷ []) 0x07 ((0x04, 1 ∷ []) ∷ []) ∷
+    declines 0x04 (0 ∷ []) [] ∷
+    declines 0x04 (2 ∷ []) [] ∷
+    takes 0x05 (0xd4 ∷ 0xfe ∷ []) 0x08 ((0x05, 0xd4 ∷ 0xfe ∷ []) ∷ []) ∷
+    takes 0x05 (0x90 ∷ 0x01 ∷ []) 0x08 ((0x05, 0x90 ∷ 0x01 ∷ []) ∷ []) ∷
+    declines 0x05 (0x4c ∷ 0x04 ∷ []) [] ∷
+    takes 0x06 (200 ∷ []) 0x09 ((0x06, 200 ∷ []) ∷ []) ∷
+    declines 0x06 (100 ∷ []) [] ∷
+    declines 0x06 (255 ∷ []) [] ∷ [])
+
+-- a parameter that has no range has no steps: ranges of one number each, with increments of 7
+abbrev pub stepless : Table
+stepless =
+    table (able (by 7 7 7 7 7 (between 300 300 (negsuc 2) (negsuc 2) (pos 7) (pos 7) (negsuc 0) (negsuc 0) 80 80))) (holds 0) (sent [] []) (standing [])
+    (at-ends ((0x09, 2) ∷ (0x0a, 2) ∷ (0x0b, 2) ∷ (0x0c, 3) ∷ (0x0d, 2) ∷ (0x0e, 4) ∷ (0x0f, 6) ∷ (0x10, 10) ∷ (0x11, 6) ∷ (0x12, 2) ∷ (0x14, 2) ∷ []))
+
 abbrev pub on-and-off : List Table
-on-and-off = in-tens ∷ farthest ∷ off-the-end ∷ longest ∷ []
+on-and-off = in-tens ∷ farthest ∷ off-the-end ∷ longest ∷ wide ∷ stepless ∷ []
 
 -- call by call: 1,010 is set, 1,005 leaves it, a reset sets zero, which is not in the range, and so cannot be set
 abbrev pub resets : Table
