@@ -1,12 +1,12 @@
 -- The laws of increments: what a range admits in other words, and by each rule of `specs/Control/Increments`.
 use Prim.Native.Nat.{ℕ, zero, suc, _+_, _-_, _*_, _/_, _%_, _≤_, _<_}
 use mathlib.Core.Path.{_≡_, refl, sym, ap, subst, _∙_}
-use mathlib.Core.Bool.{Bool, true, false, not, _&&_, true≢false}
+use mathlib.Core.Bool.{Bool, true, not, _&&_, true≢false}
 use mathlib.Core.List.{List}
 use native.Mathlib.Nat.{mod-one, mul-mod-left, div-add-mod', zero-mul, mul-comm, mul-sub, mul-le-mul-right, le-of-lt}
 use native.Mathlib.Omega.{arith}
 use lib.Dec.{eqb, leb, ltb}
-use lib.IntN.{ℤ, pos, negsuc, natAbs, negℤ, subℕ, _+ℤ_, _-ℤ_, +ℤ-comm, +ℤ-assoc, +ℤ-invr, +ℤ-idl, +ℤ-idr, negℤ-+ℤ, -ℤ-+ℤ-cancel, +ℤ-negℤ-cancel}
+use lib.IntN.{ℤ, pos, negsuc, natAbs, negℤ, _+ℤ_, _-ℤ_, +ℤ-comm, +ℤ-assoc, +ℤ-invr, +ℤ-idl, +ℤ-idr, negℤ-+ℤ, -ℤ-+ℤ-cancel, +ℤ-negℤ-cancel}
 use lib.Signed.{leZ}
 use borrow.Author.Tests.{le-leb, leb-true, leb-false, ltb-true, ltb-false, eq-eqb, ne-eqb, eqb-true, eqb-false}
 use Rattle.record.proofs.Tests.{passed, failed, tested, and-l, and-r}
@@ -16,7 +16,7 @@ use Rattle.service.specs.declared.control.op_codes.Bound.the-variants.{Free, Sp
 use Rattle.service.specs.Control.Ranges.{Range, distance, multiple, admits, is-range, in-range, value, allowed, are-ranges}
 use Rattle.service.proofs.ControlLaws.Steps.{gap, difference, distance-gap}
 use Rattle.demands.specs.Control.Rules.{above, whole, stepped}
-use Rattle.demands.specs.Control.Increments.{OnStep, AllowsSteps, Target, speed, inclination, resistance, power, heart-rate, ByOne, range-of, lies-in, allowed-before, ordered, ranges-before}
+use Rattle.demands.specs.Control.Increments.{OnStep, AllowsSteps, speed, inclination, resistance, power, heart-rate, ByOne, range-of, lies-in, allowed-before, ordered, ranges-before}
 
 -- ---- multiples
 
@@ -112,7 +112,7 @@ judges-agree f g a b r x = elim (tested (f r x)) [
   ]
 ]
 
--- the least value is always admitted
+-- the least value of every range that a machine can be opened with is admitted
 pub least-admitted : (r : Range) → is-range r ≡ true → admits r (r .least) ≡ true
 least-admitted r e = each-step r (r .least) (record {
   steps = 0;

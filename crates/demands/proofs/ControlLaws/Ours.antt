@@ -34,7 +34,7 @@ use Rattle.demands.specs.Control.Laws.{Sound, stores, by, result-in, hol
 use Rattle.demands.specs.Control.History.{mode-by, awaited-by, connected-by, indicating-by}
 use Rattle.demands.specs.Control.Runs.{led-by, run-of, words, spoken}
 use Rattle.demands.specs.Control.Answered.{answer-by, OctetIn}
-use Rattle.demands.specs.Control.Increments.{Target, op, GrantsSteps, Settled}
+use Rattle.demands.specs.Control.Increments.{Target, op, GrantsSteps, DecidesSteps, Settled}
 use Rattle.demands.proofs.ControlLaws.Kept.{sound-step, sound-after}
 use Rattle.demands.proofs.ControlLaws.Changes.{refusals, by-another}
 use Rattle.demands.proofs.ControlLaws.History.{holder-by-history}
@@ -44,7 +44,7 @@ use Rattle.demands.proofs.ControlLaws.Answered.{answers-by-history}
 use Rattle.demands.proofs.ControlLaws.Settings.{setting-by-history, granted-to-holder}
 use Rattle.demands.proofs.ControlLaws.Alive.{alive-after}
 use Rattle.demands.proofs.ControlLaws.Demanded.{answers-told}
-use Rattle.demands.proofs.ControlLaws.Targets.{grants-steps, settings-settled}
+use Rattle.demands.proofs.ControlLaws.Targets.{grants-steps, decides-steps, settings-settled}
 use Rattle.demands.proofs.ControlLaws.Meets.{by-reading, read-same}
 
 -- the console that a reply to an opening gives, unless it refuses
@@ -124,6 +124,9 @@ ours-answers p h = by-reading p (record {
 -- it grants the targets on the steps and no others
 pub ours-grants : (p : Point Console) → ByContract p → GrantsSteps p
 ours-grants p h = grants-steps p (answers-told p (ours-answers p h))
+
+pub ours-decides : (p : Point Console) → ByContract p → DecidesSteps p
+ours-decides p h = decides-steps p (answers-told p (ours-answers p h))
 
 -- ---- sequences of calls of the code
 

@@ -21,7 +21,7 @@ use Rattle.service.specs.declared.control.op_codes.Bound.{Bound}
 use Rattle.service.specs.declared.control.op_codes.Bound.the-variants.{Free}
 use Rattle.service.specs.declared.control.op_codes.Lookup.{Lookup}
 use Rattle.service.specs.declared.control.op_codes.Lookup.the-variants.{Known, Unknown}
-use Rattle.service.specs.Control.Ranges.{admits, bounded, value, allowed}
+use Rattle.service.specs.Control.Ranges.{admits, allowed}
 use Rattle.service.specs.Control.OpCodes.{op-code}
 use Rattle.service.specs.Control.Parameters.{size}
 use Rattle.service.specs.Control.Machine.{is, someone}
@@ -35,7 +35,7 @@ use Rattle.demands.specs.Control.History.{mode-by, awaited-by, connected
 use Rattle.demands.specs.Control.Runs.{led-by}
 use Rattle.demands.specs.Control.Rules as rule
 use Rattle.demands.specs.Control.Rules.{stepped}
-use Rattle.demands.specs.Control.Answered.{answer-by, refusal-by, AnswersByHistory}
+use Rattle.demands.specs.Control.Answered.{answer-by, AnswersByHistory}
 use Rattle.demands.specs.Control.Increments as increments
 use Rattle.demands.specs.Control.Increments.{OnStep, Target, speed, inclination, resistance, power, heart-rate, op, octets, number-in, range-of, GrantsSteps, MaySet, DecidesSteps, Settled}
 use Rattle.demands.proofs.ControlLaws.Changes.{fixed-at-opening}

@@ -70,8 +70,8 @@ range-of r resistance = of-signed (r .resistance)
 range-of r power = of-signed (r .power)
 range-of r heart-rate = of-heart-rate (r .«heart_rate»)
 
--- after every opening and every sequence of calls a target that is granted, by result 01, is on a step of the
--- range that the control point was opened with, and one of its right length that is answered 03 is not
+-- after every opening and every sequence of calls a target that is granted, by result 01, has its right length and is on a step of the range that the
+-- control point was opened with, and one of its right length that is answered 03 is not
 pub record GrantsSteps {S : Type 0} (p : Point S) : Type 0 where
   pub granted : (o : Opening) (x : S) → p .opening o ≡ given x → (qs : List Call) (c : ℕ) (t : Target) (w : List ℕ) →
       result-in (p .calling (run p x [] qs .1) (write c (op t ∷ w)) .0) ≡ 0x01 → (length w ≡ octets t) × OnStep (range-of (o .ranges) t) (number-in t w)
@@ -108,7 +108,7 @@ pub data Settled (r : Ranges) (t : Target) (p : List ℕ) : Type 0 where
 pub record ByOne (r : Ranges) : Type 0 where
   pub each : (t : Target) → range-of r t .increment ≡ 1
 
--- what document 01 allows: "Ranges (least, greatest, both allowed)"; "value outside its range or 08 with neither 1 nor 2"
+-- what is allowed without W-206: "Ranges (least, greatest, both allowed)"; "value outside its range or 08 with neither 1 nor 2"; of 13, "neither 1 nor 2"
 abbrev pub lies-in : Range → ℤ → Bool
 lies-in r x = in-range (r .least) (r .greatest) x
 

@@ -112,7 +112,7 @@ whole increment d = eqb (d / increment * increment) d
 abbrev pub stepped : ℤ → ℤ → ℕ → ℤ → Bool
 stepped least greatest increment x = leZ least x && leZ x greatest && whole increment (above least x)
 
--- which of these is asked of an op code: of speed, inclination, resistance, power, heart rate, or of 08 and 13
+-- which of these is asked of an op code: of speed, inclination, resistance, power, heart rate, or of 08 and 13; nothing is asked of any other
 abbrev pub asked : ℕ → Bool → Bool → Bool → Bool → Bool → Bool → Bool
 asked o a b c d e f =
     cond (eqb o 0x02) a (cond (eqb o 0x03) b (cond (eqb o 0x04) c (cond (eqb o 0x05) d (cond (eqb o 0x06) e (cond (among (0x08 ∷ 0x13 ∷ []) o) f true)))))

@@ -37,7 +37,7 @@ pub struct Ranges {
     pub heart_rate: HeartRateRange,
 }
 
-// "16 also for an increment of 0"
+// The opposite of "an increment of 0".
 fn has_steps(increment: u16) -> bool
     ensures { λ b. ⌜ b ≡ not (eqb increment 0) ⌝ }
 {

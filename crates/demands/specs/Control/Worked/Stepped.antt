@@ -2,14 +2,14 @@
 -- increment.", "result 03 also for a target off the steps", "Reset still sets zero, whether or not zero is allowed."
 use Prim.Native.Nat.{ℕ}
 use mathlib.Core.List.{List, [], _∷_, _++_}
-use lib.IntN.{ℤ, pos, negsuc}
+use lib.IntN.{pos, negsuc}
 use Rattle.service.specs.declared.control.ranges.Ranges.{Ranges}
 use Rattle.service.specs.declared.control.machine.Mode.the-variants.{Stopped}
 use Rattle.service.specs.declared.control.machine.Who.the-variants.{Nobody, Client}
 use Rattle.service.specs.Control.Replies.{sent}
 use Rattle.demands.specs.Control.Point.{write, confirm}
 use Rattle.demands.specs.Control.Cases.{asks, holds}
-use Rattle.demands.specs.Control.Worked.Seen.{state, row, Row, Table, table}
+use Rattle.demands.specs.Control.Worked.Seen.{state, row, Table, table}
 use Rattle.demands.specs.Control.Worked.Ends.{between, able, takes, declines, standing, stored, at-ends}
 
 -- the increments of speed, inclination, resistance, power and heart rate
@@ -58,7 +58,7 @@ farthest =
     declines 0x05 (0xfe ∷ 0x7f ∷ []) [] ∷
     takes 0x05 (0xff ∷ 0x7f ∷ []) 0x08 ((0x05, 0xff ∷ 0x7f ∷ []) ∷ []) ∷ [])
 
--- the greatest off the steps: speed and heart rate from 0 to 25 in steps of 10, inclination from −25 to 0, power from −15 to 15 in steps of 4; resistance
+-- the greatest off the steps: speed and heart rate from 0 to 25 in steps of 10, inclination from −25 to 0 in steps of 10, power from −15 to 15 in steps of 4; resistance
 -- from −5 to 3 in steps of 2
 abbrev pub off-the-end : Table
 off-the-end =
@@ -123,7 +123,7 @@ wide =
     declines 0x02 (0x40 ∷ 0x00 ∷ []) [] ∷
     declines 0x02 (0xff ∷ 0xff ∷ []) [] ∷
     takes 0x03 (0x70 ∷ 0xfe ∷ []) 0x06 ((0x03, 0x70 ∷ 0xfe ∷ []) ∷ []) ∷
-    declines 0x03 (0xb8 ∷ 0x04 ∷ []) [] ∷
+    declines 0x03 (0x4c ∷ 0x04 ∷ []) [] ∷
     takes 0x04 (1 ∷ []) 0x07 ((0x04, 1 ∷ []) ∷ []) ∷
     declines 0x04 (0 ∷ []) [] ∷
     declines 0x04 (2 ∷ []) [] ∷

@@ -1,7 +1,6 @@
 -- `distance` meets its contract: two numbers of s16 and their difference fit an i32, and the difference fits a u16. Assumes nothing.
 use mathlib.Core.Path.{_≡_, ap, _∙_}
-use borrow.Author.Needs.{needs}
-use lib.IntN.{ℤ, natAbs, _-ℤ_}
+use lib.IntN.{ℤ, _-ℤ_}
 use mir.Syntax.{w16, w32}
 use mir.Val.{toZ, ofZ, SFits}
 use mir.Facts.{toZ-ofZ}
