@@ -25,6 +25,7 @@ is not proved, since an edit of its own proof is missing. In the last two cases 
 import argparse
 import os
 import random
+import re
 import sys
 import time
 
@@ -80,6 +81,16 @@ def sample(copy, asked):
     return tally.keys() <= {"refused", "no program"}
 
 
+def place_of(text, program):
+    """Where the old text of a wrong program is: in its function or constant, or in the methods of its type, where it must occur once."""
+    methods = re.search(rf"^impl {program.place} \{{.*?^\}}", text, re.M | re.S)
+    if not methods:
+        return region(text, program.place or program.function, program.old)
+    if methods.group().count(program.old) != 1:
+        sys.exit(f"strength: `{program.old}` occurs {methods.group().count(program.old)} times in {program.place}")
+    return methods.start() + methods.group().index(program.old)
+
+
 def wrong(copy, asked):
     """The wrong programs of tools/wrong.txt."""
     programs = wrong_programs(os.path.join(ROOT, "tools", "wrong.txt"))
@@ -90,7 +101,7 @@ def wrong(copy, asked):
     for number, program in enumerate(programs, 1):
         if not asked_for(asked.only, program.searched):
             continue
-        start = region(source.text[program.file], program.place or program.function, program.old)
+        start = place_of(source.text[program.file], program)
         began = time.time()
         verdict, where = copy.judge(program.file, start, start + len(program.old), program.new)
         tally[verdict] = tally.get(verdict, 0) + 1
