@@ -22,7 +22,7 @@ const START: [u8; 2] = [0x13, 0x01];
 const STARTED: [u8; 7] = [0x80, 0x13, 0x01, 0xE8, 0x03, 0xD0, 0x07];
 
 // A test case that is being run: the console, and whether each answer so far was the one expected.
-#[derive(Drop)]
+#[derive(Clone, Copy)]
 pub(crate) struct Bench {
     console: Console,
     expected: bool,

@@ -15,7 +15,7 @@ const SAMPLE: [u32; 31] = [
 ];
 
 // What a notification shows: its optional groups, whether More Data is 0, whether it is right, and the number of parts that the splitter announced.
-#[derive(Drop)]
+#[derive(Clone, Copy)]
 struct Seen {
     groups: u32,
     last: bool,

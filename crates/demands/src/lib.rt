@@ -1,4 +1,5 @@
 // Demand 2 as running code: a record, split and collected, comes back equal.
+#![tactic(auto)]
 ghost use Rattle.std.specs.Prelude.{◌≡◌, true, ◌<◌, length};
 ghost use Rattle.record.specs.Answer.{given};
 ghost use Rattle.record.specs.Record.{well_formed};
@@ -14,7 +15,7 @@ use record::split::{MOST_PARTS, SplitAnswer, split};
 use service::collector::{Collected, Collection, Step, Told, collect, open};
 
 // What comes back when a record is split and collected: the record that was collected, or the refusal.
-#[derive(Drop)]
+#[derive(Clone, Copy)]
 pub enum Back {
     Record(Record),
     Refused(Refusal),

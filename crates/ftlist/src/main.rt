@@ -1,5 +1,6 @@
 // Lists a capture from standard input on standard output, the lines of one step at a time. If
 // reading or writing fails, it reports that on standard error.
+#![tactic(auto)]
 ghost use Rattle.std.specs.Prelude.{◌+◌, ◌≤◌, length};
 ghost use Rattle.io.specs.Counts.{IsPrefixLen};
 
@@ -11,7 +12,7 @@ use listing::walk::{LONGEST_CAPTURE, begin, step};
 const ROOM: usize = LONGEST_CAPTURE + 1;
 
 // How many octets were read, and whether a read failed.
-#[derive(Drop)]
+#[derive(Clone, Copy)]
 struct Input {
     length: usize,
     failed: bool,

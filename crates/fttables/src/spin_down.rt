@@ -130,7 +130,7 @@ fn print_writes() {
 }
 
 // The calls that the runs are put to, one line each.
-#[derive(Drop)]
+#[derive(Clone, Copy)]
 enum Call {
     Start,
     Ignore,

@@ -23,14 +23,14 @@ const LENGTH_OCTETS: usize = 2;
 const LAST_NUMBER: u32 = 4294967295;
 
 // The state of a listing: the collection, which is open, and the number of the next record.
-#[derive(Drop)]
+#[derive(Clone, Copy)]
 pub struct Listing {
     pub collection: Collection,
     pub number: u32,
 }
 
 // How far a listing has come: its state, its position in the capture, and whether it has ended. At position 0 it has not begun.
-#[derive(Drop)]
+#[derive(Clone, Copy)]
 pub struct Walk {
     pub listing: Listing,
     pub position: usize,
@@ -38,14 +38,14 @@ pub struct Walk {
 }
 
 // The output position after a step's lines, and the walk after the step.
-#[derive(Drop)]
+#[derive(Clone, Copy)]
 pub struct Stepped {
     pub next: usize,
     pub walk: Walk,
 }
 
 // The output position after a notification's lines, and the listing after the notification.
-#[derive(Drop)]
+#[derive(Clone, Copy)]
 struct Noted {
     next: usize,
     listing: Listing,

@@ -1,4 +1,5 @@
 // Printing for the programs: text, numbers and octets on standard output. The kit has no model of output, so what prints has no contract but is safe and ends.
+#![tactic(auto)]
 ghost use Rattle.std.specs.Prelude.{◌≡◌, take};
 
 use libc::STDOUT_FILENO;

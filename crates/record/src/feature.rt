@@ -5,14 +5,14 @@ ghost use Rattle.record.specs.Feature.{meant, feature_of, feature_octets, has_na
 use crate::octets::{put_u32, u32_at};
 use crate::refusal::Refusal;
 
-#[derive(Drop)]
+#[derive(Clone, Copy)]
 pub struct Feature {
     pub features: u32,
     pub targets: u32,
 }
 
 // What `from_octets` answers.
-#[derive(Drop)]
+#[derive(Clone, Copy)]
 pub enum FeatureAnswer {
     Feature(Feature),
     Refused(Refusal),

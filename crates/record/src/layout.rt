@@ -81,7 +81,7 @@ pub const CADENCE: u8 = 29;
 pub const AVERAGE_CADENCE: u8 = 30;
 
 // "Widths: u8, u16, u24, s16".
-#[derive(Drop)]
+#[derive(Clone, Copy)]
 pub enum Width {
     U8,
     U16,
@@ -90,7 +90,7 @@ pub enum Width {
 }
 
 // A row of a kind's table: the bit that names the group, the field, and its width.
-#[derive(Drop)]
+#[derive(Clone, Copy)]
 pub struct Row(pub u8, pub u8, pub Width);
 
 const U8: Width = Width::U8;

@@ -16,14 +16,14 @@ use crate::refusal::Refusal;
 pub const LONGEST: usize = 512;
 
 // What the flags of a notification say: its optional groups, whether it is the last part of a record, and its direction.
-#[derive(Drop)]
+#[derive(Clone, Copy)]
 pub struct Part {
     pub groups: u32,
     pub last: bool,
     pub direction: u8,
 }
 
-#[derive(Drop)]
+#[derive(Clone, Copy)]
 pub enum PartAnswer {
     Part(Part),
     Refused(Refusal),

@@ -32,20 +32,20 @@ pub fn is_payload(payload: usize) -> bool
 pub const MOST_PARTS: usize = 16;
 
 // A part's length in octets, and the number of parts of its record.
-#[derive(Drop)]
+#[derive(Clone, Copy)]
 pub struct Extent {
     pub length: usize,
     pub parts: usize,
 }
 
-#[derive(Drop)]
+#[derive(Clone, Copy)]
 pub enum SplitAnswer {
     Part(Extent),
     Refused(Refusal),
 }
 
 // The groups of one part (bit 0 stands for the main group), and the number of parts.
-#[derive(Drop)]
+#[derive(Clone, Copy)]
 struct Cut {
     set: u32,
     parts: usize,

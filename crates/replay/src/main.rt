@@ -1,5 +1,6 @@
 // Replays a script of calls, one per line, from standard input: for each it prints a line with the reply and the whole state after the call.
 // For tests: host/ compares it with an implementation that shares no code with it.
+#![tactic(auto)]
 mod collections;
 mod consoles;
 mod lines;

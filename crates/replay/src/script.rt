@@ -19,7 +19,7 @@ use service::control::{Console, Reply};
 use text::text::LF;
 
 // What the lines act on, the length of the line that has not ended yet, and whether the input has ended.
-#[derive(Drop)]
+#[derive(Clone, Copy)]
 pub(crate) struct Replay {
     pub(crate) console: Console,
     pub(crate) collection: Collection,

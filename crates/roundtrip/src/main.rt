@@ -2,6 +2,7 @@
 // reference. Then come records of which some parts are lost.
 // The output is compared with the file `stdout`, which tools/roundtrip.py writes from document 01
 // alone.
+#![tactic(auto)]
 mod cross_trainer;
 mod indoor_bike;
 mod lost;

@@ -13,14 +13,14 @@ use record::record::Record;
 use record::refusal::Refusal;
 
 // "A collection is open (a kind) or fixed (a kind and a set)."
-#[derive(Drop)]
+#[derive(Clone, Copy)]
 pub enum Told {
     Open,
     Fixed(u32),
 }
 
 // The state of a collection: its kind, what it was told, the optional groups that it holds, and the numbers of their fields.
-#[derive(Drop)]
+#[derive(Clone, Copy)]
 pub struct Collection {
     pub kind: u8,
     pub told: Told,
@@ -29,21 +29,21 @@ pub struct Collection {
 }
 
 // Whether a collection could be opened.
-#[derive(Drop)]
+#[derive(Clone, Copy)]
 pub enum Opening {
     Opened,
     Refused(Refusal),
 }
 
 // The answer to an opening, and a collection that holds nothing.
-#[derive(Drop)]
+#[derive(Clone, Copy)]
 pub struct Opened {
     pub answer: Opening,
     pub collection: Collection,
 }
 
 // What a collection answers to a notification. "Each answer says whether held groups were dropped unused".
-#[derive(Drop)]
+#[derive(Clone, Copy)]
 pub enum Collected {
     Waiting { dropped: bool },
     Record { record: Record, dropped: bool },
@@ -51,14 +51,14 @@ pub enum Collected {
 }
 
 // The answer to a notification, and the collection after it.
-#[derive(Drop)]
+#[derive(Clone, Copy)]
 pub struct Step {
     pub answer: Collected,
     pub next: Collection,
 }
 
 // The answer, and the groups held after it; the numbers stay in the lent array.
-#[derive(Drop)]
+#[derive(Clone, Copy)]
 struct Taken {
     answer: Collected,
     held: u32,

@@ -27,14 +27,14 @@ use record::feature::{Feature, FeatureAnswer};
 use record::refusal::Refusal;
 
 // Whether a client is connected, and whether its indications are on.
-#[derive(Drop)]
+#[derive(Clone, Copy)]
 pub struct Client {
     pub connected: bool,
     pub indicating: bool,
 }
 
 // What the calls act on: the machine, the four clients, and whose response awaits confirmation.
-#[derive(Drop)]
+#[derive(Clone, Copy)]
 pub struct Console {
     pub machine: Machine,
     pub clients: [Client; 4],
@@ -42,14 +42,14 @@ pub struct Console {
 }
 
 // Whether a call was done or refused.
-#[derive(Drop)]
+#[derive(Clone, Copy)]
 pub enum Outcome {
     Done,
     Refused(Refusal),
 }
 
 // The reply to a call: the outcome, the response octets, the status octets (either may be empty), and the console after it.
-#[derive(Drop)]
+#[derive(Clone, Copy)]
 pub struct Reply {
     pub outcome: Outcome,
     pub response: Counted,

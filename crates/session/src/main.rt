@@ -1,6 +1,7 @@
 // Two clients use a treadmill's control point, call by call, in the code that a maker's console
 // would have. The output is compared with the file `stdout`, which tools/session.py writes from
 // documents 01 and 02 alone.
+#![tactic(auto)]
 mod show;
 
 use crate::show::{confirm, connect, disconnect, state, turn_indications_on, write};

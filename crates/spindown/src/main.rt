@@ -1,6 +1,7 @@
 // A service crew calibrates an indoor bike by coasting, call by call, in the code that a maker's
 // console would have. The output is compared with the file `stdout`, which tools/spindown.py
 // writes from documents 01 and 02 alone.
+#![tactic(auto)]
 mod runs;
 mod show;
 

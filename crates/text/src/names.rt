@@ -16,7 +16,7 @@ pub const DIRECTION: [u8; 10] = *b"direction=";
 pub const REFUSED: [u8; 8] = *b"refused=";
 
 // The key of a field: its length, and its octets, padded with spaces.
-#[derive(Drop)]
+#[derive(Clone, Copy)]
 struct Key(usize, [u8; 21]);
 
 // Indexed by the number of the field.

@@ -6,7 +6,7 @@ use output::{first, print};
 use service::collector::{Collection, Told, open};
 
 // What is done with the notifications of a line: each is read by itself, or all are given to a collection.
-#[derive(Drop)]
+#[derive(Clone, Copy)]
 pub(crate) enum By {
     Reading,
     Collecting(Told),

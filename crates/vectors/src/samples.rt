@@ -7,7 +7,7 @@ use record::record::{
 };
 
 // Each present field at its least, at its greatest, or at a number of its own.
-#[derive(Drop)]
+#[derive(Clone, Copy)]
 pub(crate) enum Values {
     Least,
     Greatest,

@@ -4,7 +4,7 @@ ghost use Rattle.record.specs.Octets.{placed, spelled};
 ghost use Rattle.service.specs.Control.Counted.{boxed};
 
 // The first `count` octets count; those past them are 0. The longest are a status octet and a parameter of ten.
-#[derive(Drop)]
+#[derive(Clone, Copy)]
 pub struct Counted {
     pub count: u8,
     pub octets: [u8; 11],

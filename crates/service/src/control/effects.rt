@@ -14,7 +14,7 @@ use crate::control::spin_down::{TargetSpeeds, spun, starts_run};
 use record::octets::u8_at;
 
 // The response octets, the status octets, and the machine after it.
-#[derive(Drop)]
+#[derive(Clone, Copy)]
 pub(crate) struct Performed {
     pub response: Counted,
     pub status: Counted,

@@ -11,7 +11,7 @@ use record::feature::Feature;
 use record::octets::u8_at;
 
 // The result of a write.
-#[derive(Drop)]
+#[derive(Clone, Copy)]
 pub enum WriteResult {
     Success,
     NotSupported,

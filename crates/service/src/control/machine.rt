@@ -10,13 +10,13 @@ use crate::control::spin_down::{Run, TargetSpeeds};
 use record::feature::Feature;
 
 // Nobody, or a client by its number.
-#[derive(Drop)]
+#[derive(Clone, Copy)]
 pub enum Who {
     Nobody,
     Client(u8),
 }
 
-#[derive(Drop)]
+#[derive(Clone, Copy)]
 pub enum Mode {
     Stopped,
     Running,
@@ -24,7 +24,7 @@ pub enum Mode {
 }
 
 // What a machine is opened with: "A machine is opened with a Feature value and its ranges.", and target speeds, "fixed when the machine is opened".
-#[derive(Drop)]
+#[derive(Clone, Copy)]
 pub struct Setup {
     pub feature: Feature,
     pub ranges: Ranges,
@@ -32,7 +32,7 @@ pub struct Setup {
 }
 
 // What op codes act on. The sixteen settings follow one another in the order of op codes, in 49 octets.
-#[derive(Drop)]
+#[derive(Clone, Copy)]
 pub struct Machine {
     pub setup: Setup,
     pub holder: Who,

@@ -15,14 +15,14 @@ use crate::control::parameters::Parameter::{
 use record::layout::Width;
 
 // The target bit that an op code needs, if any.
-#[derive(Drop)]
+#[derive(Clone, Copy)]
 pub enum Need {
     Always,
     Bit(u8),
 }
 
 // What bounds a parameter: nothing, one of the ranges, or that it is 1 or 2.
-#[derive(Drop)]
+#[derive(Clone, Copy)]
 pub enum Bound {
     Free,
     Speed,
@@ -34,7 +34,7 @@ pub enum Bound {
 }
 
 // What success says: nothing, a status octet, or a status octet and the parameter.
-#[derive(Drop)]
+#[derive(Clone, Copy)]
 pub enum Status {
     Silent,
     Octet(u8),
@@ -43,7 +43,7 @@ pub enum Status {
 
 // What success does: gives control, resets, starts, stops or pauses, stores the parameter among the settings from an index on, or starts or ignores a
 // run of spin down.
-#[derive(Drop)]
+#[derive(Clone, Copy)]
 pub enum Act {
     TakesControl,
     Resets,
@@ -54,7 +54,7 @@ pub enum Act {
 }
 
 // What the table says about an op code.
-#[derive(Drop)]
+#[derive(Clone, Copy)]
 pub struct OpCode {
     pub parameter: Parameter,
     pub need: Need,
@@ -64,7 +64,7 @@ pub struct OpCode {
 }
 
 // An op code of the table, or one that the table does not have.
-#[derive(Drop)]
+#[derive(Clone, Copy)]
 pub enum Lookup {
     Known(OpCode),
     Unknown,

@@ -6,7 +6,7 @@ ghost use Rattle.service.specs.Control.Parameters.{widths, size};
 use record::layout::{Width, width_length};
 
 // No parameter, one number, a u16 for each zone, or "wind s16, grade s16, rolling u8, drag u8".
-#[derive(Drop)]
+#[derive(Clone, Copy)]
 pub enum Parameter {
     Empty,
     One(Width),

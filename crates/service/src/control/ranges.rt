@@ -8,28 +8,28 @@ ghost use Rattle.service.specs.Control.Ranges;
 use crate::control::op_codes::Bound;
 use record::octets::{s16_at, u8_at, u16_at};
 
-#[derive(Drop)]
+#[derive(Clone, Copy)]
 pub struct SpeedRange {
     pub least: u16,
     pub greatest: u16,
     pub increment: u16,
 }
 
-#[derive(Drop)]
+#[derive(Clone, Copy)]
 pub struct SignedRange {
     pub least: i16,
     pub greatest: i16,
     pub increment: u16,
 }
 
-#[derive(Drop)]
+#[derive(Clone, Copy)]
 pub struct HeartRateRange {
     pub least: u8,
     pub greatest: u8,
     pub increment: u8,
 }
 
-#[derive(Drop)]
+#[derive(Clone, Copy)]
 pub struct Ranges {
     pub speed: SpeedRange,
     pub inclination: SignedRange,

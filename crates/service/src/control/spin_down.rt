@@ -7,14 +7,14 @@ use crate::control::counted::{Counted, none, two};
 use crate::control::op_codes::Act;
 
 // The two target speeds of a run, "fixed when the machine is opened".
-#[derive(Drop)]
+#[derive(Clone, Copy)]
 pub struct TargetSpeeds {
     pub low: u16,
     pub high: u16,
 }
 
 // No run, a run that has said nothing yet, or one that has said 4, stop pedalling.
-#[derive(Drop)]
+#[derive(Clone, Copy)]
 pub enum Run {
     Off,
     Quiet,
@@ -22,7 +22,7 @@ pub enum Run {
 }
 
 // What a speed gives: the status octets, and the run after it.
-#[derive(Drop)]
+#[derive(Clone, Copy)]
 pub(crate) struct Fed {
     pub status: Counted,
     pub run: Run,
