@@ -1,5 +1,6 @@
 // The record layer: the field tables, numbers in octets, records, reading and splitting them, the Feature value and the refusal numbers.
 #![tactic(auto)]
+
 pub mod feature;
 pub mod formed;
 pub mod groups;

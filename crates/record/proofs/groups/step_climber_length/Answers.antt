@@ -1,0 +1,48 @@
+-- `step_climber_length` meets its contract: bit by bit, and no group above the last. Assumes nothing.
+use mathlib.Core.Path.{refl, sym}
+use Prim.Native.Nat.{zero-le}
+use Rattle.record.specs.Layout.{step_climber}
+use Rattle.record.specs.Groups.{has, named, size}
+use Rattle.record.proofs.Arms.{past}
+use Rattle.record.proofs.Rows.{no_group}
+use Rattle.record.proofs.groups.step_climber_length.Goals as goal
+
+pub returns-in-0 : goal.returns-in-0
+unfolding step_climber has named size
+returns-in-0 c = rw c.in-0.is
+
+pub returns-in-1 : goal.returns-in-1
+unfolding step_climber has named size
+returns-in-1 c = rw c.in-1.is
+
+pub returns-in-2 : goal.returns-in-2
+unfolding step_climber has named size
+returns-in-2 c = rw c.in-2.is
+
+pub returns-in-3 : goal.returns-in-3
+unfolding step_climber has named size
+returns-in-3 c = rw c.in-3.is
+
+pub returns-in-4 : goal.returns-in-4
+unfolding step_climber has named size
+returns-in-4 c = rw c.in-4.is
+
+pub returns-in-5 : goal.returns-in-5
+unfolding step_climber has named size
+returns-in-5 c = rw c.in-5.is
+
+pub returns-in-6 : goal.returns-in-6
+unfolding step_climber has named size
+returns-in-6 c = rw c.in-6.is
+
+pub returns-in-7 : goal.returns-in-7
+unfolding step_climber has named size
+returns-in-7 c = rw c.in-7.is
+
+pub returns-in-8 : goal.returns-in-8
+unfolding step_climber has named size
+returns-in-8 c = rw c.in-8.is
+
+pub returns-in_default : goal.returns-in_default
+unfolding step_climber has named size
+returns-in_default c = sym (no_group step_climber 9 c.args.bit refl (past 0 9 _ zero-le c.in_default.in_default-own.rest))

@@ -1,0 +1,91 @@
+-- `cross_trainer_row` meets its contract: row by row, and none past the last. Assumes nothing.
+use Prim.Native.Nat.{zero-le}
+use mathlib.Core.Path.{sym}
+use lib.ListN.{get_or-eq_default}
+use Rattle.record.specs.Layout.{cross_trainer, no_row}
+use Rattle.record.proofs.Arms.{past}
+use Rattle.record.proofs.layout.cross_trainer_row.Goals as goal
+
+pub returns-in-0 : goal.returns-in-0
+unfolding cross_trainer
+returns-in-0 c = rw c.in-0.is
+
+pub returns-in-1 : goal.returns-in-1
+unfolding cross_trainer
+returns-in-1 c = rw c.in-1.is
+
+pub returns-in-2 : goal.returns-in-2
+unfolding cross_trainer
+returns-in-2 c = rw c.in-2.is
+
+pub returns-in-3 : goal.returns-in-3
+unfolding cross_trainer
+returns-in-3 c = rw c.in-3.is
+
+pub returns-in-4 : goal.returns-in-4
+unfolding cross_trainer
+returns-in-4 c = rw c.in-4.is
+
+pub returns-in-5 : goal.returns-in-5
+unfolding cross_trainer
+returns-in-5 c = rw c.in-5.is
+
+pub returns-in-6 : goal.returns-in-6
+unfolding cross_trainer
+returns-in-6 c = rw c.in-6.is
+
+pub returns-in-7 : goal.returns-in-7
+unfolding cross_trainer
+returns-in-7 c = rw c.in-7.is
+
+pub returns-in-8 : goal.returns-in-8
+unfolding cross_trainer
+returns-in-8 c = rw c.in-8.is
+
+pub returns-in-9 : goal.returns-in-9
+unfolding cross_trainer
+returns-in-9 c = rw c.in-9.is
+
+pub returns-in-10 : goal.returns-in-10
+unfolding cross_trainer
+returns-in-10 c = rw c.in-10.is
+
+pub returns-in-11 : goal.returns-in-11
+unfolding cross_trainer
+returns-in-11 c = rw c.in-11.is
+
+pub returns-in-12 : goal.returns-in-12
+unfolding cross_trainer
+returns-in-12 c = rw c.in-12.is
+
+pub returns-in-13 : goal.returns-in-13
+unfolding cross_trainer
+returns-in-13 c = rw c.in-13.is
+
+pub returns-in-14 : goal.returns-in-14
+unfolding cross_trainer
+returns-in-14 c = rw c.in-14.is
+
+pub returns-in-15 : goal.returns-in-15
+unfolding cross_trainer
+returns-in-15 c = rw c.in-15.is
+
+pub returns-in-16 : goal.returns-in-16
+unfolding cross_trainer
+returns-in-16 c = rw c.in-16.is
+
+pub returns-in-17 : goal.returns-in-17
+unfolding cross_trainer
+returns-in-17 c = rw c.in-17.is
+
+pub returns-in-18 : goal.returns-in-18
+unfolding cross_trainer
+returns-in-18 c = rw c.in-18.is
+
+pub returns-in-19 : goal.returns-in-19
+unfolding cross_trainer
+returns-in-19 c = rw c.in-19.is
+
+pub returns-in_default : goal.returns-in_default
+unfolding cross_trainer
+returns-in_default c = sym (get_or-eq_default cross_trainer no_row (past 0 20 _ zero-le c.in_default.in_default-own.rest))

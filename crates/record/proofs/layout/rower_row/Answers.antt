@@ -1,0 +1,75 @@
+-- `rower_row` meets its contract: row by row, and none past the last. Assumes nothing.
+use Prim.Native.Nat.{zero-le}
+use mathlib.Core.Path.{sym}
+use lib.ListN.{get_or-eq_default}
+use Rattle.record.specs.Layout.{rower, no_row}
+use Rattle.record.proofs.Arms.{past}
+use Rattle.record.proofs.layout.rower_row.Goals as goal
+
+pub returns-in-0 : goal.returns-in-0
+unfolding rower
+returns-in-0 c = rw c.in-0.is
+
+pub returns-in-1 : goal.returns-in-1
+unfolding rower
+returns-in-1 c = rw c.in-1.is
+
+pub returns-in-2 : goal.returns-in-2
+unfolding rower
+returns-in-2 c = rw c.in-2.is
+
+pub returns-in-3 : goal.returns-in-3
+unfolding rower
+returns-in-3 c = rw c.in-3.is
+
+pub returns-in-4 : goal.returns-in-4
+unfolding rower
+returns-in-4 c = rw c.in-4.is
+
+pub returns-in-5 : goal.returns-in-5
+unfolding rower
+returns-in-5 c = rw c.in-5.is
+
+pub returns-in-6 : goal.returns-in-6
+unfolding rower
+returns-in-6 c = rw c.in-6.is
+
+pub returns-in-7 : goal.returns-in-7
+unfolding rower
+returns-in-7 c = rw c.in-7.is
+
+pub returns-in-8 : goal.returns-in-8
+unfolding rower
+returns-in-8 c = rw c.in-8.is
+
+pub returns-in-9 : goal.returns-in-9
+unfolding rower
+returns-in-9 c = rw c.in-9.is
+
+pub returns-in-10 : goal.returns-in-10
+unfolding rower
+returns-in-10 c = rw c.in-10.is
+
+pub returns-in-11 : goal.returns-in-11
+unfolding rower
+returns-in-11 c = rw c.in-11.is
+
+pub returns-in-12 : goal.returns-in-12
+unfolding rower
+returns-in-12 c = rw c.in-12.is
+
+pub returns-in-13 : goal.returns-in-13
+unfolding rower
+returns-in-13 c = rw c.in-13.is
+
+pub returns-in-14 : goal.returns-in-14
+unfolding rower
+returns-in-14 c = rw c.in-14.is
+
+pub returns-in-15 : goal.returns-in-15
+unfolding rower
+returns-in-15 c = rw c.in-15.is
+
+pub returns-in_default : goal.returns-in_default
+unfolding rower
+returns-in_default c = sym (get_or-eq_default rower no_row (past 0 16 _ zero-le c.in_default.in_default-own.rest))
