@@ -1,8 +1,0 @@
--- `hex_digit` meets its contract. Assumes nothing.
-use borrow.Author.Rules.{rules}
-use borrow.Author.Tests.{lt-ltb, le-ltb}
-use Rattle.text.proofs.text.hex_digit.Statement.{statement}
-use Rattle.text.proofs.text.hex_digit.Tie as tie
-
-pub hex_digit_spec : {M : Type 1} → statement M
-hex_digit_spec = tie.close (tie.spec (λ c. search rules) (λ c. rw (lt-ltb _ 10 c.if1.true)) (λ c. search rules) (λ c. rw (le-ltb _ 10 c.if1.false)))
