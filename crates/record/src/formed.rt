@@ -3,7 +3,7 @@ ghost use Rattle.std.specs.Prelude.{◌≡◌, cond, [], ◌∷◌, ◌^◌, ◌
 ghost use Rattle.record.specs.Layout.{layout, octets_of};
 ghost use Rattle.record.specs.Groups.{named};
 ghost use Rattle.record.specs.Record.{all_fit, all_zero, well_formed};
-ghost use Rattle.record.specs.Record as Records;
+ghost use Rattle.record.specs.Record as RecordSpecs;
 
 use crate::groups::{has, is_known, listed};
 use crate::layout;
@@ -52,7 +52,7 @@ fn all_fits(kind: u8, set: u32, numbers: &[u32; 31]) -> bool
 // Sets a row's number to 0 if the row's group is in the set.
 fn clear_row(set: u32, row: layout::Row, numbers: &mut [u32; 31])
     requires { row.1 < 31 }
-    ensures { numbers.new ≡ Records.others (named set (row ∷ [])) numbers.old }
+    ensures { numbers.new ≡ RecordSpecs.others (named set (row ∷ [])) numbers.old }
 {
     let bit = row.0;
     let field = row.1 as usize;
@@ -63,7 +63,7 @@ fn clear_row(set: u32, row: layout::Row, numbers: &mut [u32; 31])
 
 // The numbers, with 0 for every field whose group is in the set.
 fn others(kind: u8, set: u32, numbers: &[u32; 31]) -> [u32; 31]
-    ensures { result ≡ Records.others (named set (layout kind)) numbers.now }
+    ensures { result ≡ RecordSpecs.others (named set (layout kind)) numbers.now }
 {
     let n = layout::row_count(kind);
     let mut v = *numbers;
@@ -98,7 +98,7 @@ fn last_direction(kind: u8) -> u8
 // "It is well formed when the set has only bits listed for its kind, each value fits its width, fields of absent groups are 0, and
 // direction is 0 unless kind 2."
 pub fn formed(kind: u8, groups: u32, direction: u8, numbers: &[u32; 31]) -> bool
-    ensures { result ≡ Records.formed kind groups direction numbers.now }
+    ensures { result ≡ RecordSpecs.formed kind groups direction numbers.now }
 {
     if !is_known(kind) {
         return false;

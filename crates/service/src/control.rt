@@ -14,7 +14,7 @@ ghost use Rattle.record.specs.Refusal.{number_of};
 ghost use Rattle.service.specs.Control.Counted.{boxed};
 ghost use Rattle.service.specs.Control.Effects;
 ghost use Rattle.service.specs.Control.Console.{first, client_at, with_client};
-ghost use Rattle.service.specs.Control.Console;
+ghost use Rattle.service.specs.Control.Console as ConsoleSpecs;
 ghost use Rattle.service.specs.Control.Replies.{Says, refuses, accepts};
 ghost use Rattle.service.specs.Control.Calls.{opening, opens, connects, disconnects, indicates, confirms, answers, writes, feeds};
 
@@ -99,7 +99,7 @@ fn opened(setup: Setup) -> Console
 
 // The console in a reply that refuses to open one: it supports no target setting, and each number of its ranges and target speeds is 0.
 fn closed() -> Console
-    ensures { result ≡ Console.closed }
+    ensures { result ≡ ConsoleSpecs.closed }
 {
     let signed = SignedRange {
         least: 0,

@@ -2,7 +2,7 @@
 ghost use Rattle.std.specs.Prelude.{◌≡◌, ◌+◌, ◌≤◌, length};
 ghost use Rattle.record.specs.Octets.{placed};
 ghost use Rattle.service.specs.Control.Machine.{usable, someone, held_by, cleared};
-ghost use Rattle.service.specs.Control.Machine;
+ghost use Rattle.service.specs.Control.Machine as MachineSpecs;
 
 use crate::control::counted::put;
 use crate::control::ranges::{Ranges, are_ranges};
@@ -57,7 +57,7 @@ impl Setup {
 impl Who {
     // Whether it is this client.
     pub(crate) fn is(self, client: u8) -> bool
-        ensures { result ≡ Machine.is self client }
+        ensures { result ≡ MachineSpecs.is self client }
     {
         match self {
             Who::Nobody => false,
@@ -76,7 +76,7 @@ impl Who {
 
     // Nobody if it is this client, otherwise as it was.
     pub(crate) fn without(self, client: u8) -> Who
-        ensures { result ≡ Machine.without self client }
+        ensures { result ≡ MachineSpecs.without self client }
     {
         if self.is(client) {
             return Who::Nobody;
@@ -88,7 +88,7 @@ impl Who {
 impl Machine {
     // "At first it is stopped, .. nobody holds control, and every setting is zero."
     pub(crate) fn fresh(setup: Setup) -> Machine
-        ensures { result ≡ Machine.fresh setup }
+        ensures { result ≡ MachineSpecs.fresh setup }
     {
         Machine {
             setup,
@@ -118,7 +118,7 @@ impl Machine {
 
     // The run of spin down starts, goes on or is over.
     pub(crate) fn spinning(self, run: Run) -> Machine
-        ensures { result ≡ Machine.spinning self run }
+        ensures { result ≡ MachineSpecs.spinning self run }
     {
         let setup = self.setup;
         let holder = self.holder;
@@ -135,7 +135,7 @@ impl Machine {
 
     // A client leaves: "Disconnect frees control held by that client", and "disconnect of the holder .. ends a run".
     pub(crate) fn freed(self, client: u8) -> Machine
-        ensures { result ≡ Machine.freed self client }
+        ensures { result ≡ MachineSpecs.freed self client }
     {
         let held = self.holder;
         let holder = held.without(client);
@@ -148,7 +148,7 @@ impl Machine {
 
     // The machine stops, runs or pauses.
     pub(crate) fn going(self, mode: Mode) -> Machine
-        ensures { result ≡ Machine.going self mode }
+        ensures { result ≡ MachineSpecs.going self mode }
     {
         let setup = self.setup;
         let holder = self.holder;
@@ -166,7 +166,7 @@ impl Machine {
     // Stores a setting, from an index on.
     pub(crate) fn storing(mut self, place: u8, octets: &[u8]) -> Machine
         requires { place + length octets.now ≤ 49 }
-        ensures { result ≡ Machine.storing self (placed self.settings place octets.now) }
+        ensures { result ≡ MachineSpecs.storing self (placed self.settings place octets.now) }
     {
         let mut settings = self.settings;
         put(&mut settings, place as usize, octets);

@@ -3,7 +3,7 @@
 ghost use Rattle.std.specs.Prelude.{◌≡◌, true, not, eqb, pos};
 ghost use Rattle.std.specs.Int.Signed.{le_z};
 ghost use Rattle.service.specs.Control.Ranges.{of_speed, of_signed, of_heart_rate, multiple, in-range, is_range, are_ranges};
-ghost use Rattle.service.specs.Control.Ranges;
+ghost use Rattle.service.specs.Control.Ranges as RangesSpecs;
 
 use crate::control::op_codes::Bound;
 use record::octets::{s16_at, u8_at, u16_at};
@@ -58,7 +58,7 @@ fn is_multiple(increment: u16, n: u16) -> bool
 // How far a number is above the least value: up to 65,535, which no i16 holds.
 fn distance(least: i16, x: i16) -> u16
     requires { le_z least x ≡ true }
-    ensures { result ≡ Ranges.distance least x }
+    ensures { result ≡ RangesSpecs.distance least x }
 {
     (x as i32 - least as i32) as u16
 }
@@ -73,7 +73,7 @@ impl SpeedRange {
 
     // Whether a speed lies in it, and on a step.
     pub(crate) fn admits(self, x: u16) -> bool
-        ensures { result ≡ Ranges.admits (of_speed self) (pos x) }
+        ensures { result ≡ RangesSpecs.admits (of_speed self) (pos x) }
     {
         if self.least <= x {
             return x <= self.greatest && is_multiple(self.increment, x - self.least);
@@ -92,7 +92,7 @@ impl SignedRange {
 
     // Whether a number lies in it, and on a step.
     pub(crate) fn admits(self, x: i16) -> bool
-        ensures { result ≡ Ranges.admits (of_signed self) x }
+        ensures { result ≡ RangesSpecs.admits (of_signed self) x }
     {
         if self.least <= x {
             return x <= self.greatest && is_multiple(self.increment, distance(self.least, x));
@@ -111,7 +111,7 @@ impl HeartRateRange {
 
     // Whether a heart rate lies in it, and on a step.
     pub(crate) fn admits(self, x: u8) -> bool
-        ensures { result ≡ Ranges.admits (of_heart_rate self) (pos x) }
+        ensures { result ≡ RangesSpecs.admits (of_heart_rate self) (pos x) }
     {
         if self.least <= x {
             return x <= self.greatest
@@ -149,7 +149,7 @@ fn is_one_or_two(x: u8) -> bool
 
 // Whether a parameter is allowed by what bounds it, if anything does. Resistance is one unsigned octet in a signed range.
 pub(crate) fn allowed(ranges: Ranges, bound: Bound, p: &[u8]) -> bool
-    ensures { result ≡ Ranges.allowed ranges bound p.now }
+    ensures { result ≡ RangesSpecs.allowed ranges bound p.now }
 {
     let octet = u8_at(p, 0);
     let word = u16_at(p, 0);

@@ -1,7 +1,0 @@
--- `spun` meets its contract. Assumes nothing.
-use borrow.Author.Tests.{eq-eqb, ne_eqb}
-use Rattle.service.proofs.control.spin_down.spun.Statement.{statement}
-use Rattle.service.proofs.control.spin_down.spun.Tie as tie
-
-pub spun_spec : {M : Type 1} → statement M
-spun_spec = tie.close (tie.spec (λ c. rw (eq-eqb _ _ c.if1.true)) (λ c. rw (ne_eqb _ _ c.if1.false)))
