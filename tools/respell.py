@@ -15,7 +15,7 @@ import os
 import re
 import sys
 
-DECLARED = re.compile(r"^\s*(?:abbrev\s+|unfoldable\s+|pub\s+)*([^\s:(){}.,;]+)\s*:\s")
+DECLARED = re.compile(r"^\s*(?:abbrev\s+|unfoldable\s+|pub\s+)*([^\s:(){}.,;]+)\s*:(?:\s|$)")
 NAME = re.compile(r"[^\s(){}\[\].,;:`\"|]+")
 USE = re.compile(r"(?:ghost )?use\s+([\w·.+'-]+)\.\{([^}]*)\}")
 

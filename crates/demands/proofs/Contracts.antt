@@ -46,11 +46,11 @@ module _ (κs : Lfts 1) (lend : List ℕ → (ℕ × ℕ) × GName) (reply : Rec
 -- the same for a collector: any steps that meet the contract of `service::collector::collect`, and any openings that meet that of `open`
 module _ (κs : Lfts 1) (lend : List ℕ → (ℕ × ℕ) × GName) (step : Collection → List ℕ → Step) (exit : Collection → List ℕ → AtExit (ended_of 1 collect-kinds.ps collect-kinds.r) κs)
     (begin : ℕ → Told → Opened) (end : ℕ → Told → AtExit (ended_of 0 open-kinds.ps open-kinds.r) tt) where
-  pub by-contracts :
-      ((c : Collection) (s : List ℕ) → collect.Post κs (c, (record { ref_ptr = (lend s).0; ghost_name = (lend s).1; now = s }, tt)) (step c s) (exit c s)) →
+  pub by_contracts :
+      ((c : Collection) (s : List ℕ) → collect.Post κs (c, (record { ref_ptr = (lend s).0; now = s }, tt)) (step c s) (exit c s)) →
       ((kind : ℕ) (told : Told) → opening.Post tt (kind, (told, tt)) (begin kind told) (end kind told)) →
       CollectsAsPromised (λ kind told. (begin kind told).collection) (λ c s. Collector.meant (step c s).answer) (λ c s. (step c s).next)
-  by-contracts steps opens = record { opens_so = λ kind told. (opens kind told).1; says_so = λ c s. (steps c s).0; goes_on = λ c s. (steps c s).1 }
+  by_contracts steps opens = record { opens_so = λ kind told. (opens kind told).1; says_so = λ c s. (steps c s).0; goes_on = λ c s. (steps c s).1 }
 
 -- for a well-formed record's kind and set, opening is never refused
 pub opens_empty : (r : Sent) (t : Told) → Ready r.groups t → opens r.kind t ≡ given (empty r.kind t)

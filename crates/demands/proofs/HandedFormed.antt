@@ -32,14 +32,14 @@ pub data Fed (kind : ℕ) (told : Told) : Collection → Type 0 where
 
 -- a state that holds the values of its groups and nothing else
 record Tidy (c : Collection) : Type 0 where
-  kind-known : known c.kind ≡ true
+  kind_known : known c.kind ≡ true
   even : c.held % 2 ≡ 0
   inside : Sub c.held (listed c.kind)
   clean : Clean c.kind c.held c.numbers
 
 tidy_empty : (kind : ℕ) (told : Told) → known kind ≡ true → Tidy (empty kind told)
 tidy_empty kind told k = record {
-  kind-known = k;
+  kind_known = k;
   even = refl;
   inside = record { member = λ i h. absurd (true≢false (sym h ∙ has_empty i)) };
   clean = clean_zeros kind;
@@ -61,7 +61,7 @@ module _ (c : Collection) (t : Tidy c) (s : List ℕ) (octets : (i : ℕ) → ge
     where
       either : (b : Bool) → Tidy (cond b c (empty c.kind c.told))
       either true = t
-      either false = tidy_empty c.kind c.told t.kind-known
+      either false = tidy_empty c.kind c.told t.kind_known
 
   -- what is left of the held groups
   left_even : (dropped : Bool) → cond dropped 0 c.held % 2 ≡ 0
@@ -90,19 +90,19 @@ module _ (c : Collection) (t : Tidy c) (s : List ℕ) (octets : (i : ℕ) → ge
       let m : flags_of c.kind s % 2 ≡ 1 = omega arith in
       record {
         next_tidy = record {
-          kind-known = t.kind-known;
-          even = held_even c.kind t.kind-known s octets S v (left_even dropped) (left_inside dropped) (left_clean dropped);
-          inside = held_listed c.kind t.kind-known s octets S v (left_even dropped) (left_inside dropped) (left_clean dropped);
-          clean = clean_waiting c.kind t.kind-known s octets S v (left_even dropped) (left_inside dropped) (left_clean dropped) m;
+          kind_known = t.kind_known;
+          even = held_even c.kind t.kind_known s octets S v (left_even dropped) (left_inside dropped) (left_clean dropped);
+          inside = held_listed c.kind t.kind_known s octets S v (left_even dropped) (left_inside dropped) (left_clean dropped);
+          clean = clean_waiting c.kind t.kind_known s octets S v (left_even dropped) (left_inside dropped) (left_clean dropped) m;
         };
         hands_good = λ r d h. absurd (let z : ◌≡◌ {A = ℕ} 0 1 = ap tag h in omega arith);
       })
       (tidied_refusal 34)
       (λ e. record {
-        next_tidy = tidy_empty c.kind c.told t.kind-known;
+        next_tidy = tidy_empty c.kind c.told t.kind_known;
         hands_good = λ r d h.
             subst Good (same_record _ r dropped d h)
-            (let f = formed_last c.kind t.kind-known s octets S v (left_even dropped) (left_inside dropped) (left_clean dropped) (eqb_eq (flags_of c.kind s % 2) 0 e) in
+            (let f = formed_last c.kind t.kind_known s octets S v (left_even dropped) (left_inside dropped) (left_clean dropped) (eqb_eq (flags_of c.kind s % 2) 0 e) in
             good c.kind _ _ _ f.0 f.1);
       })
 

@@ -57,9 +57,9 @@ lost_2 = true ∷ false ∷ true ∷ []
 pub not_repeating : Demand3 splitter repeating → ⊥
 unfolding AllFaithful Alike Chunks Gaps flat last_of
 not_repeating d =
-    let e : 3 ≡ d.takes 2 0x7FFE 20 = ap length (sym trainer_1.spells) ∙ d.taken 20 refl (trainer 1) trainer_1.is-good in
+    let e : 3 ≡ d.takes 2 0x7FFE 20 = ap length (sym trainer_1.spells) ∙ d.taken 20 refl (trainer 1) trainer_1.is_good in
     let f : AllFaithful splitter repeating 20 (empty 2 (Fixed 0x7FFE)) (trainer 1 ∷ trainer 2 ∷ []) (lost_1_3 ∷ lost_2 ∷ []) =
-    d.holds 2 0x7FFE 20 refl (trainer 1 ∷ trainer 2 ∷ []) (trainer_1.is-good, refl, refl, (trainer_2.is-good, refl, refl, tt)) (lost_1_3 ∷ lost_2 ∷ [])
+    d.holds 2 0x7FFE 20 refl (trainer 1 ∷ trainer 2 ∷ []) (trainer_1.is_good, refl, refl, (trainer_2.is_good, refl, refl, tt)) (lost_1_3 ∷ lost_2 ∷ [])
     (e, (e, tt)) (λ h. (omega arith, (omega arith, (omega arith, tt)))) in
     let g : Faithful (trainer 2) lost_2 (heard repeating (heard repeating (empty 2 (Fixed 0x7FFE)) (trainer_octets 1) lost_1_3).1 (trainer_octets 2) lost_2).0 =
     subst₂ (λ (a b : List (List ℕ)). Faithful (trainer 2) lost_2 (heard repeating (heard repeating (empty 2 (Fixed 0x7FFE)) a lost_1_3).1 b lost_2).0)
@@ -81,10 +81,10 @@ computed : (heard collector (heard collector (empty 3 (Fixed 0x1FE)) (climber_oc
 unfolding heard collect part_of joins values read_into number layout tables step_climber has named size groups_of listed lowest
 computed = refl
 
-pub passes-as-one :
+pub passes_as_one :
     (heard collector (heard collector (empty 3 (Fixed 0x1FE)) (pieces splitter 20 (climber 1 1)) lost_last).1 (pieces splitter 20 (climber 2 2)) lost_first).0
     ≡ handed (climber 1 2) false ∷ []
-passes-as-one =
+passes_as_one =
     subst₂ (λ (a b : List (List ℕ)). (heard collector (heard collector (empty 3 (Fixed 0x1FE)) a lost_last).1 b lost_first).0 ≡ handed (climber 1 2) false ∷ [])
     (sym climber_1.spells) (sym climber_2.spells) computed
 
@@ -101,5 +101,5 @@ unfolding AllFaithful Gaps flat last_of
 loss_condition_needed = (
   (omega arith, (omega arith, tt)),
   λ f.
-      neither.1 (own_record (climber 2 2) (climber 1 2) false [] lost_first refl (subst (Faithful (climber 2 2) lost_first) passes-as-one f.1.0)),
+      neither.1 (own_record (climber 2 2) (climber 1 2) false [] lost_first refl (subst (Faithful (climber 2 2) lost_first) passes_as_one f.1.0)),
 )

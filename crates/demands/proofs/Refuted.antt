@@ -65,8 +65,8 @@ module _ (c : Collector) (x : Record) (constant : (state : c.State) (s : List �
 
   pub not_constant : (s : Splitter) → Demand2 s c → ⊥
   not_constant s h =
-      let a : (n : ℕ) × (says c (c.opened 6 Open) (pieces s 20 (bike 1)) ≡ answers n (bike 1)) = from_opening s c h (bike 1) bike_1.is-good in
-      let b : (n : ℕ) × (says c (c.opened 6 Open) (pieces s 20 (bike 2)) ≡ answers n (bike 2)) = from_opening s c h (bike 2) bike_2.is-good in
+      let a : (n : ℕ) × (says c (c.opened 6 Open) (pieces s 20 (bike 1)) ≡ answers n (bike 1)) = from_opening s c h (bike 1) bike_1.is_good in
+      let b : (n : ℕ) × (says c (c.opened 6 Open) (pieces s 20 (bike 2)) ≡ answers n (bike 2)) = from_opening s c h (bike 2) bike_2.is_good in
       bikes_differ (sym (constantly (c.opened 6 Open) (pieces s 20 (bike 1)) a.0 (bike 1) a.1) ∙ constantly (c.opened 6 Open) (pieces s 20 (bike 2)) b.0 (bike 2) b.1)
 
 abbrev four_of_one : Answer Extent
@@ -120,7 +120,7 @@ first_left = refl
 pub not_inventing : (f : ℕ → ℕ) → (f 1 ≡ 1 → ⊥) → Demand2 (inventing f) collector → ⊥
 not_inventing f g h =
     let a : (n : ℕ) × (says collector (empty 6 Open) (pieces (inventing f) 20 (bike 1)) ≡ answers n (bike 1)) =
-    from_opening (inventing f) collector h (bike 1) bike_1.is-good in
+    from_opening (inventing f) collector h (bike 1) bike_1.is_good in
     g (sym (claimed_parts f (split_of (bike 1) 20 0 512) bike_answers.0)
     ∙ one_claimed (parts_of (claimed f (split_of (bike 1) 20 0 512))) a.0 (piece (inventing f) 20 (bike 1))
     (claimed_piece f (split_of (bike 1) 20 0 512) (lent_after (bike 1) 20 0 buffer) bike_answers.0 ∙ first_left) a.1)
@@ -156,9 +156,9 @@ module _ (c : Collector) where
       Hands (bike 1) (c.step (c.step (c.opened 6 (Fixed 0)) (bike_octets 1)).1 (bike_octets 1)).0
   unfolding heard AllFaithful Alike Chunks
   bike_twice d =
-      let e : 1 ≡ d.takes 6 0 20 = ap length (sym bike_1.spells) ∙ d.taken 20 refl (bike 1) bike_1.is-good in
+      let e : 1 ≡ d.takes 6 0 20 = ap length (sym bike_1.spells) ∙ d.taken 20 refl (bike 1) bike_1.is_good in
       let f : Twice (pieces splitter 20 (bike 1)) =
-      d.holds 6 0 20 refl (bike 1 ∷ bike 1 ∷ []) (bike_1.is-good, refl, refl, (bike_1.is-good, refl, refl, tt)) ((true ∷ []) ∷ (true ∷ []) ∷ [])
+      d.holds 6 0 20 refl (bike 1 ∷ bike 1 ∷ []) (bike_1.is_good, refl, refl, (bike_1.is_good, refl, refl, tt)) ((true ∷ []) ∷ (true ∷ []) ∷ [])
       (e, (e, tt)) (λ h. absurd (omega arith)) in
       let g : Twice (bike_octets 1 ∷ []) = subst Twice bike_1.spells f in
       (one_part (bike 1) (c.step (c.opened 6 (Fixed 0)) (bike_octets 1)).0 g.0, one_part (bike 1) (c.step (c.step (c.opened 6 (Fixed 0)) (bike_octets 1)).1 (bike_octets 1)).0 g.1.0)

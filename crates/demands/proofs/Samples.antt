@@ -45,7 +45,7 @@ good k g d v l h =
 
 -- a well-formed record, and its notifications at payload 20
 pub record Sample (r : Record) (o : List (List ℕ)) : Type 0 where
-  pub is-good : Good r
+  pub is_good : Good r
   pub spells : pieces splitter 20 r ≡ o
 
 -- by the sets of its parts, which are computed once
@@ -56,7 +56,7 @@ sample k g d v ss o l h e f =
     let w : Good r = good k g d v l h in
     let n : wire r ≡ v = numbers_again k g d v l (formed_in_types k g d v h l) in
     record {
-      is-good = w;
+      is_good = w;
       spells = pieces_are r w 20 refl ∙ ap (parts (sent r w)) e ∙ mapped (sent r w) ss ∙ ap (λ (v : List ℕ). map (λ s. octets k s d v) ss) n ∙ f;
     }
 

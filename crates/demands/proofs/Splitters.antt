@@ -58,10 +58,10 @@ abbrev pub lying : Record → ℕ → ℕ → ℕ
 lying r payload i = cond (eqb i 0) (count r payload) 99
 
 pub not_lying : (c : Collector) → Demand2 (claiming lying) c → ⊥
-not_lying = not_claiming lying 20 refl (climber 1 1) climber_1.is-good 1 (omega (arith, two_parts)) (λ e. omega (arith, two_parts, e))
+not_lying = not_claiming lying 20 refl (climber 1 1) climber_1.is_good 1 (omega (arith, two_parts)) (λ e. omega (arith, two_parts, e))
 
 pub not_always_one : (c : Collector) → Demand2 (claiming (λ r payload i. 1)) c → ⊥
-not_always_one = not_claiming (λ r payload i. 1) 20 refl (climber 1 1) climber_1.is-good 0 (omega (arith, two_parts)) (λ e. omega (arith, two_parts, e))
+not_always_one = not_claiming (λ r payload i. 1) 20 refl (climber 1 1) climber_1.is_good 0 (omega (arith, two_parts)) (λ e. omega (arith, two_parts, e))
 
 -- ---- the order of the layout
 
@@ -79,10 +79,10 @@ abbrev pub exchanging_back : Collector
 exchanging_back = record { State = Collection; opened = empty; step = λ c s. (back_again (collect c s).said, (collect c s).next) }
 
 -- a cross trainer's record comes back from the two: the answers do not show it
-pub comes-back-exchanged :
+pub comes_back_exchanged :
     says exchanging_back (empty 2 Open) (pieces exchanging 20 Samples.cross_trainer) ≡ waiting false ∷ waiting false ∷ handed Samples.cross_trainer false ∷ []
 unfolding says each split_wire extent_of layout tables cross_trainer has named size groups_of listed all_fit others all_zero formed longest cut spelled written collect part_of joins values read_into number
-comes-back-exchanged = refl
+comes_back_exchanged = refl
 
 trainer_good : Good Samples.cross_trainer
 trainer_good = record { typed = trainer_typed; formed = trainer_formed }
@@ -116,7 +116,7 @@ one_part = (omega arith, refl)
 -- what any splitter must leave of it in the lent buffer
 must_leave : (s : Splitter) (c : Collector) → Demand2 s c → (out : List ℕ) → 4 ≤ length out → s.left (bike 1) 20 0 out ≡ over out (0 ∷ 0 ∷ 1 ∷ 0 ∷ [])
 must_leave s c d out l =
-    (d.splits 20 refl (bike 1) bike_1.is-good).leaves 0 one_part.0 out (subst (λ (o : List ℕ). length o ≤ length out) (sym one_part.1) l)
+    (d.splits 20 refl (bike 1) bike_1.is_good).leaves 0 one_part.0 out (subst (λ (o : List ℕ). length o ≤ length out) (sym one_part.1) l)
     ∙ ap (over out) one_part.1
 
 -- a splitter that writes nothing, whatever it answers

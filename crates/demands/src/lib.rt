@@ -1,5 +1,6 @@
 // Demand 2 as running code: a record, split and collected, comes back equal.
 #![tactic(auto)]
+
 ghost use Rattle.std.specs.Prelude.{◌≡◌, true, ◌<◌, length};
 ghost use Rattle.record.specs.Answer.{given};
 ghost use Rattle.record.specs.Record.{well_formed};

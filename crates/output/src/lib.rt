@@ -1,19 +1,22 @@
 // Printing for the programs: text, numbers and octets on standard output. The kit has no model of output, so what prints has no contract but is safe and ends.
 #![tactic(auto)]
+
 ghost use Rattle.std.specs.Prelude.{◌≡◌, take};
 
-use libc::STDOUT_FILENO;
 use record::octets::unsigned;
 use text::text::put_hex;
 
+// The file descriptor of standard output.
+const STDOUT: i32 = 1;
+
 pub fn print(text: &[u8]) {
-    io::write_all(STDOUT_FILENO, text);
+    io::write_all(STDOUT, text);
 }
 
 // A label, then a number.
 pub fn print_number(label: &[u8], n: u64) {
-    io::write_all(STDOUT_FILENO, label);
-    io::print_decimal(STDOUT_FILENO, n);
+    io::write_all(STDOUT, label);
+    io::print_decimal(STDOUT, n);
 }
 
 // A label, then a signed number, with `-` before a negative one.

@@ -27,25 +27,25 @@ feature_meant = by_meaning feature-answers.Feature feature-answers.Refused Featu
 
 -- ---- each public function
 
-pub octets-once :
+pub octets_once :
     Once octets-u8-at.Post ×
     Once octets-u16-at.Post ×
     Once octets-u24-at.Post ×
     Once octets-s16-at.Post ×
     Once octets-unsigned.Post
-octets-once =
+octets_once =
     (λ κs a x y s t. same, λ κs a x y s t. same, λ κs a x y s t. same, λ κs a x y s t. same, λ κs a x y s t. same)
 
 pub refusal_once : Once refusal-number.Post
 refusal_once κs a x y s t = same
 
-pub feature-once :
+pub feature_once :
     Once feature-to-octets.Post ×
     Once feature-has-feature.Post ×
     Once feature-has-target.Post ×
     Once feature-feature-bits.Post ×
     Once feature-target-bits.Post
-feature-once =
+feature_once =
     (λ κs a x y s t. same, λ κs a x y s t. same, λ κs a x y s t. same, λ κs a x y s t. same, λ κs a x y s t. same)
 
 pub from_octets_once : Once feature-from-octets.Post

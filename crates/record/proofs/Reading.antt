@@ -30,13 +30,13 @@ pub read_next : (among : ℕ) (rows : List Row) (i : ℕ) (r : Row) (s : List �
     read_into (named among (drop i rows)) (drop at s) v
 read_next among rows i r s at v e h =
     let d : drop i rows ≡ r ∷ drop (i + 1) rows = drop-cons rows i no_row h ∙ rw (← e, add-one i) in
-    sym (ap (λ (l : List Row). read_into (named among l) (drop at s) v) d ∙ named-row)
+    sym (ap (λ (l : List Row). read_into (named among l) (drop at s) v) d ∙ named_row)
   where
-    named-row :
+    named_row :
         read_into (named among (r ∷ drop (i + 1) rows)) (drop at s) v ≡
         read_into (named among (drop (i + 1) rows)) (drop (at + cond (has among r.0) (octets_of r.2) 0) s)
         (cond (has among r.0) (set v r.1 (number (octets_of r.2) (drop at s))) v)
-    named-row = unfold named in read_row r (named among (drop (i + 1) rows)) s at v (has among r.0)
+    named_row = unfold named in read_row r (named among (drop (i + 1) rows)) s at v (has among r.0)
 
 -- nothing is left to read
 pub read_none : (among : ℕ) (rows : List Row) (s v : List ℕ) → rows ≡ [] → read_into (named among rows) s v ≡ v

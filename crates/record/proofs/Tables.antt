@@ -119,24 +119,24 @@ length_mono kind set a (suc d) =
 -- ---- of the six kinds
 
 -- each group, the main one too, takes 17 octets at most, and there is a main one
-abbrev groups-small : ℕ → List Row → Bool
-groups-small zero rows = true
-groups-small (suc n) rows = leb (size (named (2 ^ n) rows)) 17 && groups-small n rows
+abbrev groups_small : ℕ → List Row → Bool
+groups_small zero rows = true
+groups_small (suc n) rows = leb (size (named (2 ^ n) rows)) 17 && groups_small n rows
 
 abbrev good : List Row → Bool
-good rows = groups-small 15 rows && eqb (groups_of rows % 2) 1
+good rows = groups_small 15 rows && eqb (groups_of rows % 2) 1
 
 pub record Sound (kind : ℕ) : Type 0 where
   pub group : (l : ℕ) → l < 15 → set_length kind (2 ^ l) ≤ 17
   pub main : groups_of (layout kind) % 2 ≡ 1
 
-group_small : (n : ℕ) (rows : List Row) → groups-small n rows ≡ true → (l : ℕ) → l < n → size (named (2 ^ l) rows) ≤ 17
+group_small : (n : ℕ) (rows : List Row) → groups_small n rows ≡ true → (l : ℕ) → l < n → size (named (2 ^ l) rows) ≤ 17
 group_small zero rows e l h = absurd (omega arith)
 group_small (suc n) rows e l h = elim (tested (eqb l n)) [
-  | passed i ↦ rw (eqb_eq l n i) (leb_le (size (named (2 ^ n) rows)) 17 (and_l (leb (size (named (2 ^ n) rows)) 17) (groups-small n rows) e))
+  | passed i ↦ rw (eqb_eq l n i) (leb_le (size (named (2 ^ n) rows)) 17 (and_l (leb (size (named (2 ^ n) rows)) 17) (groups_small n rows) e))
   | failed i ↦
       let d : l ≡ n → ⊥ = eqb_ne l n i in
-      group_small n rows (and_r (leb (size (named (2 ^ n) rows)) 17) (groups-small n rows) e) l (omega arith)
+      group_small n rows (and_r (leb (size (named (2 ^ n) rows)) 17) (groups_small n rows) e) l (omega arith)
 ]
 
 layout_good : (k : ℕ) → k < 6 → good (layout (suc k)) ≡ true
@@ -147,8 +147,8 @@ layout_good k h =
 sound_next : (k : ℕ) → k < 6 → Sound (suc k)
 sound_next k h =
     let rows : List Row = layout (suc k) in record {
-      group = group_small 15 rows (and_l (groups-small 15 rows) (eqb (groups_of rows % 2) 1) (layout_good k h));
-      main = eqb_eq (groups_of rows % 2) 1 (and_r (groups-small 15 rows) (eqb (groups_of rows % 2) 1) (layout_good k h));
+      group = group_small 15 rows (and_l (groups_small 15 rows) (eqb (groups_of rows % 2) 1) (layout_good k h));
+      main = eqb_eq (groups_of rows % 2) 1 (and_r (groups_small 15 rows) (eqb (groups_of rows % 2) 1) (layout_good k h));
     }
 
 pub sound : (kind : ℕ) → 1 ≤ kind → kind ≤ 6 → Sound kind

@@ -10,19 +10,19 @@ use Rattle.record.proofs.layout.row_count.Reads as layout-row-count
 use Rattle.record.proofs.layout.row_of.Reads as layout-row-of
 use Rattle.record.proofs.Once.{Once, same}
 
-pub groups-once :
+pub groups_once :
     Once groups-is-known.Post ×
     Once groups-has.Post ×
     Once groups_listed.Post ×
     Once groups-flags-length.Post ×
     Once groups-group-length.Post ×
     Once groups-groups-length.Post
-groups-once =
+groups_once =
     (λ κs a x y s t. same, λ κs a x y s t. same, λ κs a x y s t. same, λ κs a x y s t. same, λ κs a x y s t. same, λ κs a x y s t. same)
 
-pub layout-once :
+pub layout_once :
     Once layout-width-length.Post ×
     Once layout-row-count.Post ×
     Once layout-row-of.Post
-layout-once =
+layout_once =
     (λ κs a x y s t. same, λ κs a x y s t. same, λ κs a x y s t. same)

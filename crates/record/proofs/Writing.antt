@@ -32,13 +32,13 @@ pub write_next : (among : ℕ) (rows : List Row) (i : ℕ) (r : Row) (v out : Li
     placed out at (written (named among (drop i rows)) v)
 write_next among rows i r v out at e h =
     let d : drop i rows ≡ r ∷ drop (i + 1) rows = drop-cons rows i no_row h ∙ rw (← e, add-one i) in
-    named-row ∙ ap (λ (l : List Row). placed out at (written (named among l) v)) (sym d)
+    named_row ∙ ap (λ (l : List Row). placed out at (written (named among l) v)) (sym d)
   where
-    named-row :
+    named_row :
         placed (placed out at (cond (has among r.0) (spelled (octets_of r.2) (get_or v r.1 0)) [])) (at + cond (has among r.0) (octets_of r.2) 0)
         (written (named among (drop (i + 1) rows)) v) ≡
         placed out at (written (named among (r ∷ drop (i + 1) rows)) v)
-    named-row = unfold named in write_row r (named among (drop (i + 1) rows)) v out at (has among r.0)
+    named_row = unfold named in write_row r (named among (drop (i + 1) rows)) v out at (has among r.0)
 
 -- nothing is left to write
 pub write_none : (among : ℕ) (rows : List Row) (v out : List ℕ) (at : ℕ) → rows ≡ [] → placed out at (written (named among rows) v) ≡ out

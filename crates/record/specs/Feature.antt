@@ -106,7 +106,7 @@ pub in_order : (feature_bits ≡ 0 ∷ 1 ∷ 2 ∷ 3 ∷ 4 ∷ 5 ∷ 6 ∷ 7 ∷
 in_order = (refl, refl)
 
 -- "Feature value, 8 octets, two u32", least octet first; "Other bits are written 0 and ignored when read."; "22: Feature value not 8 octets"
-pub read-and-written :
+pub read_and_written :
     (feature_of (0x01 ∷ 0x02 ∷ 0x00 ∷ 0x00 ∷ 0x04 ∷ 0x00 ∷ 0x01 ∷ 0x00 ∷ []) ≡ given (record { features = 0x201; targets = 0x10004 })) ×
     (feature_of (0xFF ∷ 0xFF ∷ 0xFF ∷ 0xFF ∷ 0xFF ∷ 0xFF ∷ 0xFF ∷ 0xFF ∷ []) ≡ given (record { features = 0x1FFFF; targets = 0x1FFFF })) ×
     (feature_of (0 ∷ 0 ∷ 0 ∷ 0 ∷ 0 ∷ 0 ∷ 0 ∷ []) ≡ refused 22) × (feature_of (0 ∷ 0 ∷ 0 ∷ 0 ∷ 0 ∷ 0 ∷ 0 ∷ 0 ∷ 0 ∷ []) ≡ refused 22) ×
@@ -114,4 +114,4 @@ pub read-and-written :
     (feature_octets (record { features = 0xFFFFFFFF; targets = 0x20000 }) ≡ 0xFF ∷ 0xFF ∷ 0x01 ∷ 0x00 ∷ 0x00 ∷ 0x00 ∷ 0x00 ∷ 0x00 ∷ []) ×
     (has_named 0x10000 16 ≡ true) × (has_named 0x20000 17 ≡ false) × (has_named 0x1FFFE 0 ≡ false)
 unfolding number spelled has
-read-and-written = (refl, refl, refl, refl, refl, refl, refl, refl, refl)
+read_and_written = (refl, refl, refl, refl, refl, refl, refl, refl, refl)

@@ -45,16 +45,16 @@ unfolding tables treadmill cross_trainer step_climber stair_climber rower indoor
 kinds_ordered = refl
 
 -- the kinds that have negative gain are the treadmill and the cross trainer
-pub gain-kinds :
+pub gain_kinds :
     (nowhere negative_gain treadmill ≡ false) × (nowhere negative_gain cross_trainer ≡ false) × (nowhere negative_gain step_climber ≡ true)
     × (nowhere negative_gain stair_climber ≡ true) × (nowhere negative_gain rower ≡ true) × (nowhere negative_gain indoor_bike ≡ true)
 unfolding treadmill cross_trainer step_climber stair_climber rower indoor_bike
-gain-kinds = (refl, refl, refl, refl, refl, refl)
+gain_kinds = (refl, refl, refl, refl, refl, refl)
 
 -- `ordered` rejects negative gain before positive gain, and the two in the right order but in two groups
-pub exchanged-refused :
+pub exchanged_refused :
     (ordered (at 5 negative_gain U16 ∷ at 5 positive_gain U16 ∷ []) ≡ false) × (ordered (at 5 positive_gain U16 ∷ at 6 negative_gain U16 ∷ []) ≡ false)
-exchanged-refused = (refl, refl)
+exchanged_refused = (refl, refl)
 
 -- a record with its positive and negative gain exchanged, which the samples, demand 2 and the listing's law reject
 abbrev pub exchanged : Record → Record

@@ -9,11 +9,11 @@ use Rattle.reference.proofs.tables.put_kind.Reads as put-kind
 use Rattle.reference.proofs.tables.put_table.Reads as put-table
 use Rattle.reference.proofs.tables.put_page.Reads as put-page
 
-pub words-once :
+pub words_once :
     (Once put-width.Post × LeftOnce put-width.Post (λ κs s. s.0.now)) ×
     (Once put-group.Post × LeftOnce put-group.Post (λ κs s. s.0.now)) ×
     (Once put-kind.Post × LeftOnce put-kind.Post (λ κs s. s.0.now))
-words-once = (
+words_once = (
   (λ κs a x y s t p q. (wrote_once _ _ _ _ _ _ _ p q).0, λ κs a x y s t p q. (wrote_once _ _ _ _ _ _ _ p q).1),
   (λ κs a x y s t p q. (wrote_once _ _ _ _ _ _ _ p q).0, λ κs a x y s t p q. (wrote_once _ _ _ _ _ _ _ p q).1),
   (λ κs a x y s t p q. (wrote_once _ _ _ _ _ _ _ p q).0, λ κs a x y s t p q. (wrote_once _ _ _ _ _ _ _ p q).1),

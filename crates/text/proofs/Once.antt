@@ -17,7 +17,7 @@ pub wrote_once : (out : List ℕ) (at : ℕ) (text left left' : List ℕ) (next 
     (next ≡ next') × (left ≡ left')
 wrote_once out at text left left' next next' p q = (p.place ∙ sym q.place, p.octets ∙ sym q.octets)
 
-pub texts-once :
+pub texts_once :
     (Once put_byte.Post × LeftOnce put_byte.Post (λ κs s. s.0.now)) ×
     (Once put-bytes.Post × LeftOnce put-bytes.Post (λ κs s. s.0.now)) ×
     (Once put-decimal.Post × LeftOnce put-decimal.Post (λ κs s. s.0.now)) ×
@@ -25,7 +25,7 @@ pub texts-once :
     (Once put-hex.Post × LeftOnce put-hex.Post (λ κs s. s.0.now)) ×
     (Once put-name.Post × LeftOnce put-name.Post (λ κs s. s.0.now)) ×
     (Once put-field.Post × LeftOnce put-field.Post (λ κs s. s.0.now))
-texts-once = (
+texts_once = (
   (λ κs a x y s t p q. (wrote_once _ _ _ _ _ _ _ p q).0, λ κs a x y s t p q. (wrote_once _ _ _ _ _ _ _ p q).1),
   (λ κs a x y s t p q. (wrote_once _ _ _ _ _ _ _ p q).0, λ κs a x y s t p q. (wrote_once _ _ _ _ _ _ _ p q).1),
   (λ κs a x y s t p q. (wrote_once _ _ _ _ _ _ _ p q).0, λ κs a x y s t p q. (wrote_once _ _ _ _ _ _ _ p q).1),

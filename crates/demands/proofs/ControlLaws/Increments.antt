@@ -46,9 +46,9 @@ gap_above (negsuc a) (negsuc b) h = omega arith
 gap_reaches : (a b : ℤ) → le_z a b ≡ true → b ≡ a +ℤ pos (gap a b)
 gap_reaches a b h = sym (-ℤ-+ℤ_cancel b a) ∙ +ℤ_comm (b -ℤ a) a ∙ ap (λ (z : ℤ). a +ℤ z) (difference a b h)
 
-from-least : (a : ℤ) (n : ℕ) → le_z a (a +ℤ pos n) ≡ true
-from-least (pos a) n = le-leb a (a + n) (omega arith)
-from-least (negsuc a) n = elim (tested (ltb n (suc a))) [
+from_least : (a : ℤ) (n : ℕ) → le_z a (a +ℤ pos n) ≡ true
+from_least (pos a) n = le-leb a (a + n) (omega arith)
+from_least (negsuc a) n = elim (tested (ltb n (suc a))) [
   | passed e ↦ rw e (le-leb (suc a - suc n) a (omega arith))
   | failed e ↦ rw e
 ]
@@ -88,7 +88,7 @@ module _ (r : Range) (x : ℤ) where
   each_step : OnStep r x → admits r x ≡ true
   each_step s =
       let n : ℕ = s.steps * r.increment in
-      let h : le_z r.least x ≡ true = ap (le_z r.least) s.reached ∙ from-least r.least n in
+      let h : le_z r.least x ≡ true = ap (le_z r.least) s.reached ∙ from_least r.least n in
       let d : distance r.least x ≡ n = ap (distance r.least) s.reached ∙ distance_up r.least n in
       rw (h, s.not_above, d) (multiple_times r.increment s.steps)
 

@@ -51,14 +51,14 @@ unfolding op_code
 statuses = (refl, refl, refl, refl, refl, refl, refl)
 
 -- W-201: "Op code 13 becomes supported with target bit 15: parameter 1 starts, 2 ignores.", "a start or an ignore gives none"; 15 is not known
-pub spin-down :
+pub spin_down :
     (op_code 0x13 ≡ Known (known (One U8) (Bit 15) OneOrTwo Silent SpinsDown)) ×
     (parameter (op_code 0x13) ≡ U8 ∷ []) ×
     (success_status (op_code 0x13) (1 ∷ []) ≡ []) ×
     (success_status (op_code 0x13) (2 ∷ []) ≡ []) ×
     (op_code 0x15 ≡ Unknown)
 unfolding op_code
-spin-down = (refl, refl, refl, refl, refl)
+spin_down = (refl, refl, refl, refl, refl)
 
 -- its octet is no setting: none of a machine's octets is read for it
 pub no_setting : (m : Machine) → setting m 0x13 ≡ []
@@ -70,11 +70,11 @@ no_setting m = refl
 abbrev speeds : TargetSpeeds
 speeds = record { low = 1000; high = 2000 }
 
-pub speeds-follow :
+pub speeds_follow :
     (response_octets 0x13 Success ++ success_followed speeds (op_code 0x13) (1 ∷ []) ≡ 0x80 ∷ 0x13 ∷ 0x01 ∷ 0xe8 ∷ 0x03 ∷ 0xd0 ∷ 0x07 ∷ []) ×
     (response_octets 0x13 Success ++ success_followed speeds (op_code 0x13) (2 ∷ []) ≡ 0x80 ∷ 0x13 ∷ 0x01 ∷ [])
 unfolding op_code number spelled
-speeds-follow = (refl, refl)
+speeds_follow = (refl, refl)
 
 -- what is said at each speed of a run, in order, and whether it is on after them
 abbrev course : Run → List ℕ → List (List ℕ) × Bool
@@ -97,7 +97,7 @@ courses = (refl, refl, refl, refl, refl)
 abbrev span : ℤ → ℤ → ℕ → Range
 span a b i = record { least = a; greatest = b; increment = i }
 
-pub on-steps :
+pub on_steps :
     (map (admits (span (pos 1000) (pos 2000) 10)) (pos 990 ∷ pos 1000 ∷ pos 1005 ∷ pos 1010 ∷ pos 2000 ∷ pos 2010 ∷ []) ≡
     false ∷ true ∷ false ∷ true ∷ true ∷ false ∷ []) ×
     (map (admits (span (negsuc 32767) (pos 32767) 65535)) (negsuc 32767 ∷ negsuc 32766 ∷ negsuc 0 ∷ pos 0 ∷ pos 32766 ∷ pos 32767 ∷ []) ≡
@@ -106,7 +106,7 @@ pub on-steps :
     (map (admits (span (negsuc 4) (pos 3) 2)) (negsuc 4 ∷ pos 0 ∷ pos 1 ∷ pos 2 ∷ pos 3 ∷ pos 4 ∷ []) ≡ true ∷ false ∷ true ∷ false ∷ true ∷ false ∷ []) ×
     (map is_range (span (pos 0) (pos 25) 10 ∷ span (pos 0) (pos 25) 0 ∷ span (pos 25) (pos 25) 1 ∷ span (pos 26) (pos 25) 1 ∷ []) ≡
     true ∷ false ∷ true ∷ false ∷ [])
-on-steps = (refl, refl, refl, refl, refl)
+on_steps = (refl, refl, refl, refl, refl)
 
 -- the console of a refused opening: each number of its ranges, and each target speed, is 0
 abbrev parts : Range → List ℤ
@@ -117,6 +117,6 @@ numbers r =
     parts (of_speed r.speed) ++ parts (of_signed r.inclination) ++ parts (of_signed r.resistance) ++ parts (of_signed r.power) ++
     parts (of_heart_rate r.heart_rate)
 
-pub closed-numbers :
+pub closed_numbers :
     (numbers closed.machine.setup.ranges ≡ replicate 15 (pos 0)) × (closed.machine.setup.speeds.low ≡ 0) × (closed.machine.setup.speeds.high ≡ 0)
-closed-numbers = (refl, refl, refl)
+closed_numbers = (refl, refl, refl)

@@ -1,9 +1,0 @@
--- `number_at` meets its contract. Assumes nothing.
-use mathlib.Core.Path.{sym}
-use borrow.Author.Rules.{rules}
-use lib.ListN.{get_or-eq_default}
-use Rattle.listing.proofs.lines.number_at.Statement.{statement}
-use Rattle.listing.proofs.lines.number_at.Tie as tie
-
-pub number_at_spec : {M : Type 1} → statement M
-number_at_spec = tie.close (tie.spec (λ c. search rules) (λ c. search rules) (λ c. search rules) (λ c. sym (get_or-eq_default c.before.args.numbers.now 0 c.if1.false)))
