@@ -1,5 +1,6 @@
 // The calls of a C host. Those that split and list return 0 or a refusal's number; on a refusal nothing that a pointer points to changes.
 #![tactic(auto)]
+
 mod split;
 
 ghost use Rattle.std.specs.Prelude.{◌≡◌, min, length};

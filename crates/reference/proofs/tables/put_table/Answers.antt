@@ -18,8 +18,10 @@ loop-i-init c = let f = c.flags_length-offset.ensures in
     (c.row_count-n.ensures, nothing _ _ (omega arith) (omega arith), omega arith, refl, omega (arith, f), omega arith)
 
 pub overflow_add-offset : goal.overflow_add-offset
-overflow_add-offset c = let w : c.width_length.result ≤ 3 = rw c.width_length.ensures (width_most c.row_of-row.result.2) in let n = (let k = c.args.kind in
-    let m : length (layout k) ≤ 20 = rows_most k in omega (arith, c.loop-i.invariant)) in let o = c.loop-i.invariant.5 in search rules
+overflow_add-offset c = let w : c.width_length.result ≤ 3 = rw c.width_length.ensures (width_most c.row_of-row.result.2) in
+    let m : length (layout c.args.kind) ≤ 20 = rows_most c.args.kind in
+    let n : c.loop-i.i ≤ 20 = omega (arith, c.loop-i.invariant) in
+    let o = c.loop-i.invariant.5 in search rules
 
 pub loop-i-preserved : goal.loop-i-preserved
 loop-i-preserved c = let s = c.args in
