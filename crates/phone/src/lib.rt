@@ -1,4 +1,4 @@
-// The calls of a C host. Those that split and list return 0 or a refusal's number; on a refusal nothing that a pointer points to changes.
+// The calls of a C host, which `phone_c` exports. Those that split and list return 0 or a refusal's number; on a refusal nothing that a pointer points to changes.
 #![tactic(auto)]
 
 mod split;
@@ -13,8 +13,7 @@ use listing::capture::{ListAnswer, list, list_length};
 
 // One part, counted from 0, of the record that a notification of the kind holds, split at a payload: its octets, its length and the number
 // of parts. Refusals, in this order: 11, 12, 30, 31, 32, 13, 15, 14. In C a slice is two arguments, a pointer and a length.
-#[unsafe(no_mangle)]
-pub extern "C" fn hordivasz_split(
+pub fn hordivasz_split(
     kind: u32,
     record: &[u8],
     payload: usize,
@@ -47,8 +46,7 @@ fn listed(answer: ListAnswer, out_length: &mut usize) -> u32
 }
 
 // The listing of a capture, and its length: refusal 14 if it does not fit.
-#[unsafe(no_mangle)]
-pub extern "C" fn hordivasz_list(capture: &[u8], out: &mut [u8], out_length: &mut usize) -> u32
+pub fn hordivasz_list(capture: &[u8], out: &mut [u8], out_length: &mut usize) -> u32
     ensures value { result ≡ code (answer_of (listing capture.now) (length out.old)) }
     ensures out_after { out.new ≡ lent_after (listing capture.now) out.old }
     ensures out_length_after { out_length.new ≡ told (answer_of (listing capture.now) (length out.old)) (λ n. n) out_length.old }
@@ -58,8 +56,7 @@ pub extern "C" fn hordivasz_list(capture: &[u8], out: &mut [u8], out_length: &mu
 }
 
 // How many octets the listing of a capture has: the length of the buffer to lend for it.
-#[unsafe(no_mangle)]
-pub extern "C" fn hordivasz_list_length(capture: &[u8]) -> usize
+pub fn hordivasz_list_length(capture: &[u8]) -> usize
     ensures { result ≡ min (length (listing capture.now)) top }
 {
     list_length(capture)

@@ -3,6 +3,7 @@
 // The output is compared with the file `stdout`, which tools/roundtrip.py writes from document 01
 // alone.
 #![tactic(auto)]
+
 mod cross_trainer;
 mod indoor_bike;
 mod lost;

@@ -2,6 +2,7 @@
 // would have. The output is compared with the file `stdout`, which tools/session.py writes from
 // documents 01 and 02 alone.
 #![tactic(auto)]
+
 mod show;
 
 use crate::show::{confirm, connect, disconnect, state, turn_indications_on, write};

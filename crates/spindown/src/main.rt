@@ -2,6 +2,7 @@
 // console would have. The output is compared with the file `stdout`, which tools/spindown.py
 // writes from documents 01 and 02 alone.
 #![tactic(auto)]
+
 mod runs;
 mod show;
 

@@ -1,6 +1,7 @@
 // The run cases of the record layer and the collector: records in parts and back, refusals, numbers, the Feature value, and collections. The
 // output is compared with the file `stdout`, which tools/vectors.py writes from document 01 alone.
 #![tactic(auto)]
+
 mod collections;
 mod lines;
 mod plain;
