@@ -2,6 +2,7 @@
 // `pass` if the outcome is the one that the test suite expects, `departs` if document 01 has another or asks for one more step, `outside` if what
 // is tested lies outside documents 01 and 02, the last two with the reason; `FAIL` if the outcome is not the expected one.
 #![tactic(auto)]
+
 mod bench;
 mod errors;
 mod notifications;

