@@ -1,94 +1,62 @@
 // Lists a capture from standard input on standard output, the lines of one step at a time. If
 // reading or writing fails, it reports that on standard error.
 #![tactic(auto)]
-ghost use Rattle.std.specs.Prelude.{◌+◌, ◌≤◌, length};
-ghost use Rattle.io.specs.Counts.{IsPrefixLen};
 
-use libc::{STDIN_FILENO, STDOUT_FILENO};
+ghost use Rattle.std.specs.Prelude.{◌+◌, ◌≤◌, length, IfOk};
+
 use listing::lines::LONGEST_LINES;
 use listing::walk::{LONGEST_CAPTURE, begin, step};
+use std::io;
+use std::io::{Read, Write};
 
 // One octet more than the longest capture that is listed, so that a longer one is noticed.
 const ROOM: usize = LONGEST_CAPTURE + 1;
 
-// How many octets were read, and whether a read failed.
-#[derive(Clone, Copy)]
-struct Input {
-    length: usize,
-    failed: bool,
-}
-
-// One read into a buffer, after the octets that it has already: reads none if the input has ended
-// or the read fails.
-fn read_some(buffer: &mut [u8], at: usize) -> Input
+// One read into a buffer, after the octets that it has already: reads none if the input has ended.
+fn read_some<R: Read>(source: &mut R, buffer: &mut [u8], at: usize) -> io::Result<usize>
     requires { at ≤ length buffer.old }
-    ensures { at + result.length ≤ length buffer.new }
+    ensures { IfOk result (λ n. at + n ≤ length buffer.new) }
 {
     let rest = &mut buffer[at..];
-    let got = libc::read(STDIN_FILENO, rest);
-    Input {
-        length: io::count(got, rest),
-        failed: got < 0,
-    }
+    source.read(rest)
 }
 
-// Reads until the input ends, a read fails or the buffer is full.
-fn read_input(buffer: &mut [u8]) -> Input
-    ensures { IsPrefixLen result.length buffer.new }
+// Reads until the input ends, a read fails or the buffer is full; returns how many octets it read.
+fn read_input<R: Read>(source: &mut R, buffer: &mut [u8]) -> io::Result<usize>
+    ensures { IfOk result (λ n. n ≤ length buffer.new) }
 {
     let mut filled = 0;
     while filled < buffer.len() {
-        let more = read_some(buffer, filled);
-        if more.length == 0 {
-            return Input {
-                length: filled,
-                failed: more.failed,
-            };
+        let more = read_some(source, buffer, filled)?;
+        if more == 0 {
+            break;
         }
-        filled += more.length;
+        filled += more;
     }
-    Input {
-        length: filled,
-        failed: false,
-    }
-}
-
-// Writes lines, and returns whether all were written; if not, it reports that.
-fn show(lines: &[u8]) -> bool {
-    let taken = io::write_all(STDOUT_FILENO, lines);
-    if !taken {
-        os::fail(b"ftlist: standard output");
-    }
-    taken
+    Ok(filled)
 }
 
 // Lists a capture, until the listing ends or a write fails.
-fn show_listing(capture: &[u8]) {
+fn show_listing<W: Write>(target: &mut W, capture: &[u8]) -> io::Result<()> {
     let mut space = [0u8; LONGEST_LINES];
     let lines: &mut [u8] = &mut space;
     let mut walk = begin();
     while !walk.ended {
         let stepped = step(lines, 0, walk, capture);
         let length = stepped.next;
-        if !show(&lines[..length]) {
-            return;
-        }
+        target.write_all(&lines[..length])?;
         walk = stepped.walk;
     }
+    Ok(())
 }
 
-// Lists the input, or nothing of it if it cannot be read.
-fn list_input(buffer: &mut [u8]) {
-    let input = read_input(buffer);
-    if input.failed {
-        os::fail(b"ftlist: standard input");
-        return;
-    }
-    let length = input.length;
-    show_listing(&buffer[..length]);
-}
-
-fn main() {
+fn main(rt: HostRuntime) -> io::Result<()> {
     let mut buffer = [0u8; ROOM];
-    list_input(&mut buffer);
+    match read_input(&mut rt.stdin(), &mut buffer) {
+        Ok(length) => match show_listing(&mut rt.stdout(), &buffer[..length]) {
+            Ok(()) => Ok(()),
+            Err(error) => eprintln!(rt; "ftlist: standard output: {error}"),
+        },
+        Err(error) => eprintln!(rt; "ftlist: standard input: {error}"),
+    }
 }

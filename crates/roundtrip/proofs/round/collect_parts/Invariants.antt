@@ -1,6 +1,0 @@
--- `collect_parts` is safe and ends: the measure is the number of parts that may be left. Assumes nothing.
-use Rattle.roundtrip.proofs.round.collect_parts.Given as goal
-
-abbrev pub invariant-loop-part : goal.invariant-loop-part
-invariant-loop-part l =
-    Unit {0}
