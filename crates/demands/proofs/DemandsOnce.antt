@@ -1,6 +1,5 @@
 -- No second reply meets the contract of `comes_back` or of `comes_back_told`.
 use mathlib.Core.Path.{◌≡◌, refl, sym, ◌∙◌}
-use Rattle.record.specs.declared.record.Record.{Record}
 use Rattle.record.proofs.Once.{Once, Variant, with_value, with_refusal, by_meaning}
 use Rattle.demands.specs.declared.Back.{Back}
 use Rattle.demands.specs.declared.Back.TheVariants as answers

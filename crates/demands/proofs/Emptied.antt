@@ -9,7 +9,6 @@ use lib.Dec.{eqb, leb}
 use Rattle.record.specs.declared.notification.Part.{Part}
 use Rattle.record.specs.declared.record.Record.{Record}
 use Rattle.record.specs.Answer.{Answer, given}
-use Rattle.record.specs.Answer as Answer
 use Rattle.record.specs.Notification.{part_of}
 use Rattle.record.proofs.Tests.{leb_true, leb_false}
 use Rattle.service.specs.declared.collector.Told.{Told}

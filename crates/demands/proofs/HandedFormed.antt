@@ -1,5 +1,5 @@
 -- Whatever octets a collector has received, it hands out a well-formed record: no value of an earlier record is left in it.
-use Prim.Native.Nat.{ℕ, ◌-◌, ◌%◌, ◌<◌}
+use Prim.Native.Nat.{ℕ, ◌%◌, ◌<◌}
 use mathlib.Core.Path.{◌≡◌, refl, sym, ap, ◌∙◌, subst}
 use mathlib.Core.Bool.{Bool, true, false, cond, true≢false}
 use mathlib.Core.List.{List}
@@ -9,8 +9,7 @@ use lib.ListN.{get_or}
 use Rattle.record.specs.declared.notification.Part.{Part}
 use Rattle.record.specs.declared.record.Record.{Record}
 use Rattle.record.specs.Answer.{Answer, given}
-use Rattle.record.specs.Answer as Answer
-use Rattle.record.specs.Groups.{has, known, listed, optional}
+use Rattle.record.specs.Groups.{known, listed, optional}
 use Rattle.record.specs.Notification.{flags_of, names, heading, part_of}
 use Rattle.record.proofs.Clean.{Clean, clean_zeros}
 use Rattle.record.proofs.Joined.{held_even, held_listed, clean_waiting, formed_last}

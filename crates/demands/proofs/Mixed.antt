@@ -13,7 +13,6 @@ use Rattle.record.specs.Layout.{layout, tables, cross_trainer, step_climber}
 use Rattle.record.specs.Groups.{has, named, size, groups_of, listed}
 use Rattle.record.specs.Octets.{number}
 use Rattle.record.specs.Answer.{Answer, given}
-use Rattle.record.specs.Answer as Answer
 use Rattle.record.specs.Notification.{part_of, read_into, values}
 use Rattle.service.specs.declared.collector.Told.TheVariants.{Open, Fixed}
 use Rattle.service.specs.declared.collector.Collection.{Collection}

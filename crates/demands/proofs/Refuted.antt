@@ -12,7 +12,6 @@ use Rattle.record.specs.Layout.{layout, tables, indoor_bike}
 use Rattle.record.specs.Groups.{has, named, size, groups_of, listed}
 use Rattle.record.specs.Octets.{number, spelled}
 use Rattle.record.specs.Answer.{Answer, given}
-use Rattle.record.specs.Answer as Answer
 use Rattle.record.specs.Notification.{part_of, read_into, values}
 use Rattle.record.specs.Record.{all_fit, others, all_zero, formed}
 use Rattle.record.specs.Split.{longest, cut, written, extent_of, split_of, lent_after, split_wire}

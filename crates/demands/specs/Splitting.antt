@@ -1,5 +1,5 @@
 -- Worked cases of splitting: "Where several apply, the splitter's order is 11, 12, 13, 15, 14", what is well formed, and what is left in the lent octets.
-use Rattle.std.specs.Prelude.{ℕ, List, [], ◌∷◌, ◌++◌, map, length, set, replicate}
+use Rattle.std.specs.Prelude.{ℕ, List, [], ◌∷◌, ◌++◌, map, set, replicate}
 use Rattle.record.specs.declared.record.Record.{Record}
 use Rattle.record.specs.declared.split.Extent.{Extent}
 use Rattle.record.specs.Answer.{Answer, refused, given}

@@ -26,7 +26,7 @@ use Rattle.record.proofs.Tests.{all, all_at, and_l, and_r, leb_le, eqb_false}
 use Rattle.text.specs.Names.{name, names}
 use Rattle.text.specs.Text.{ascii, decimal, integer, line}
 use Rattle.listing.specs.Lines.{value, field_line, field_lines, head_lines, record_lines}
-use Rattle.listing.specs.Beside.{entries, no_entry, present, lines_beside, Lists}
+use Rattle.listing.specs.Beside.{entries, no_entry, lines_beside, Lists}
 
 -- ---- which fields are signed
 

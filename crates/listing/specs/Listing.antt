@@ -1,7 +1,6 @@
 -- The listing of a capture: "a kind octet, then for each notification a u16 length and its octets. It collects openly."
 use Rattle.std.specs.Prelude.{ℕ, zero, suc, ◌+◌, min, cond, List, [], ◌∷◌, ◌++◌, eqb, leb, ltb, length, take, drop}
 use Rattle.record.specs.Answer.{Answer, given, provided, after}
-use Rattle.record.specs.Answer as Answer
 use Rattle.record.specs.Groups.{known}
 use Rattle.record.specs.Octets.{number, over}
 use Rattle.record.specs.Refusal.{number_of}

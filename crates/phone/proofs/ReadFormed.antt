@@ -1,7 +1,7 @@
 -- A notification with More Data 0 always holds a well-formed record: so a host gets 13 for More Data 1 and for nothing else.
 use Prim.Native.Nat.{ℕ, ◌%◌, ◌<◌}
 use mathlib.Core.Path.{◌≡◌, refl, sym, ap, ◌∙◌, subst}
-use mathlib.Core.Bool.{true, false, true≢false}
+use mathlib.Core.Bool.{true, true≢false}
 use mathlib.Core.List.{List}
 use lib.Bits.{or_zero_l}
 use lib.Dec.{eqb}

@@ -1,14 +1,12 @@
 -- Names in capitals, and names that were first written to a buffer of their own. Assumes nothing.
-use Prim.Native.Nat.{ℕ, zero, suc, ◌+◌, ◌<◌, ◌≤◌}
-use Prim.Native.String.{String}
-use mathlib.Core.Path.{◌≡◌, refl, sym, ap, ◌∙◌}
-use mathlib.Core.Bool.{Bool, true, ◌&&◌}
-use mathlib.Core.List.{List, [], ◌∷◌, ◌++◌, map, map-append}
+use Prim.Native.Nat.{ℕ, ◌+◌, ◌<◌, ◌≤◌}
+use mathlib.Core.Path.{◌≡◌}
+use mathlib.Core.List.{List, [], ◌∷◌, map-append}
 use native.Mathlib.Numerals.{add-one}
 use native.Mathlib.Omega.{arith}
-use lib.ListN.{length, get_or, take, drop, length-append}
+use lib.ListN.{length, get_or, take}
 use lib.Seq.{take-suc, take_all, take-append_seam}
-use Rattle.text.specs.Text.{Wrote, written, top}
+use Rattle.text.specs.Text.{Wrote, top}
 use Rattle.text.proofs.Writing.{then, roomy, keeps}
 use Rattle.reference.specs.Header.{capital, capitals}
 

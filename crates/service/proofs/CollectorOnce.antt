@@ -1,5 +1,4 @@
 -- No second answer and no second state meets the collector's contracts.
-use Prim.Native.Nat.{ℕ}
 use mathlib.Core.Path.{◌≡◌, refl, sym, ap, ap₂, ◌∙◌}
 use native.Mathlib.Omega.{arith}
 use Rattle.record.specs.Refusal.{number_of}
@@ -11,7 +10,6 @@ use Rattle.service.specs.declared.collector.Collected.{Collected}
 use Rattle.service.specs.declared.collector.Collected.TheVariants as answers
 use Rattle.service.specs.declared.collector.Opening.{Opening}
 use Rattle.service.specs.declared.collector.Opening.TheVariants as openings
-use Rattle.service.specs.declared.collector.Opened.{Opened}
 use Rattle.service.specs.Collector.{Said, meant, meant_opening}
 use Rattle.service.proofs.Said.{tag, same_waiting, same_record, same_dropped, same_number, same_refused}
 use Rattle.service.proofs.collector.open.Reads as open-reads

@@ -4,7 +4,6 @@ use Rattle.std.specs.Int.Bits.{bit_and, bit_or}
 use Rattle.record.specs.declared.notification.Part.{Part}
 use Rattle.record.specs.declared.record.Record.{Record}
 use Rattle.record.specs.Answer.{Answer, given, provided}
-use Rattle.record.specs.Answer as Answer
 use Rattle.record.specs.Groups.{known, listed, within}
 use Rattle.record.specs.Notification.{part_of, joined}
 use Rattle.record.specs.Record.{of_wire}

@@ -22,7 +22,7 @@ use Rattle.service.specs.Control.Machine.{is, someone, held_by, spinning}
 use Rattle.service.specs.Control.Judging.{fit, judged}
 use Rattle.service.specs.Control.Console.{with_machine}
 use Rattle.service.specs.Control.Replies.{Sent, refuses, sent, response_of, status_of, refusal_of}
-use Rattle.service.specs.Control.Calls.{Opening, opening, opened, connects, disconnects, indicates, confirms, writes, feeds}
+use Rattle.service.specs.Control.Calls.{Opening, opened, connects, disconnects, indicates, confirms, writes, feeds}
 use Rattle.demands.specs.Control.Point.{Call, connect, disconnect, confirm, indicate, write, flywheel, Point, service, latest, step, run, Answers}
 use Rattle.demands.specs.Control.Laws.{result_in, holder_by}
 use Rattle.demands.specs.Control.History.{mode_by, awaited_by, connected_by, indicating_by}
