@@ -4,7 +4,7 @@
 usage: tools/respell.py        at the top of the repository: rewrites specs/, proofs/ and the clauses of src/
        tools/respell.py --list  prints each old name and its new one
 
-A name that a proof file of one function declares for a goal (its type names `tie.` or `goal.`) keeps the spelling that the prover gives it,
+A name that only a proof file of one function declares, for a goal (its type names `tie.` or `goal.`), keeps the spelling that the prover gives it,
 and a name that a file takes from the kit keeps the kit's. In a clause a word under an alias with a middle dot, as `Groups·has`,
 is written by its module, as `Groups.has`.
 """
@@ -39,7 +39,7 @@ def new_name(old):
 
 def declared():
     """Each own name that changes, with its new spelling."""
-    names, goals = set(), set()
+    names = set()
     for path in antt_files():
         function = re.search(r"/proofs/(?:[^/]+/)*(?:Proof|Answers|Invariants)\.antt$", path)
         for line in read(path).splitlines():
@@ -49,11 +49,9 @@ def declared():
             name = found.group(1)
             if not re.search(r"\w-\w|′", name):
                 continue
-            if function and re.search(r"\b(tie|goal)\.", line):
-                goals.add(name)
-            else:
+            if not (function and re.search(r"\b(tie|goal)\.", line)):
                 names.add(name)
-    turned = {name: new_name(name) for name in names - goals}
+    turned = {name: new_name(name) for name in names}
     for name in list(turned):
         if "◌" in name:
             for part in name.split("◌"):

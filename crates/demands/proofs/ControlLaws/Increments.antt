@@ -13,7 +13,7 @@ use Rattle.record.proofs.Tests.{passed, failed, tested, and_l, and_r}
 use Rattle.service.specs.declared.control.ranges.Ranges.{Ranges}
 use Rattle.service.specs.declared.control.op_codes.Bound.{Bound}
 use Rattle.service.specs.declared.control.op_codes.Bound.TheVariants.{Free, Speed, Inclination, Resistance, Power, HeartRate, OneOrTwo}
-use Rattle.service.specs.Control.Ranges.{Range, distance, multiple, admits, is_range, in-range, value, allowed, are_ranges}
+use Rattle.service.specs.Control.Ranges.{Range, distance, multiple, admits, is_range, in_range, value, allowed, are_ranges}
 use Rattle.service.proofs.ControlLaws.Steps.{gap, difference, distance_gap}
 use Rattle.demands.specs.Control.Rules.{above, whole, stepped}
 use Rattle.demands.specs.Control.Increments.{OnStep, AllowsSteps, speed, inclination, resistance, power, heart_rate, ByOne, range_of, lies_in, allowed_before, ordered, ranges_before}
@@ -60,7 +60,7 @@ distance_up a n = ap nat_abs (ap (λ (z : ℤ). z -ℤ a) (+ℤ_comm a (pos n)) 
 
 module _ (r : Range) (x : ℤ) where
   abbrev inside : Bool
-  inside = in-range r.least r.greatest x
+  inside = in_range r.least r.greatest x
 
   abbrev on : Bool
   on = multiple r.increment (distance r.least x)

@@ -11,7 +11,7 @@ use Rattle.service.specs.declared.control.ranges.Ranges.{Ranges}
 use Rattle.service.specs.declared.control.machine.Who.TheVariants.{Client}
 use Rattle.service.specs.declared.control.op_codes.Bound.{Bound}
 use Rattle.service.specs.declared.control.op_codes.Bound.TheVariants.{Free, Speed, Inclination, Resistance, Power, HeartRate, OneOrTwo}
-use Rattle.service.specs.Control.Ranges.{Range, of_speed, of_signed, of_heart_rate, in-range, value}
+use Rattle.service.specs.Control.Ranges.{Range, of_speed, of_signed, of_heart_rate, in_range, value}
 use Rattle.service.specs.Control.Machine.{someone}
 use Rattle.service.specs.Control.Calls.{Opening}
 use Rattle.demands.specs.Control.Point.{Call, write, Point, Event, run}
@@ -105,7 +105,7 @@ pub record ByOne (r : Ranges) : Type 0 where
 
 -- what is allowed without W-206: "Ranges (least, greatest, both allowed)"; "value outside its range or 08 with neither 1 nor 2"; of 13, "neither 1 nor 2"
 abbrev pub lies_in : Range → ℤ → Bool
-lies_in r x = in-range r.least r.greatest x
+lies_in r x = in_range r.least r.greatest x
 
 abbrev pub allowed_before : Ranges → Bound → List ℕ → Bool
 allowed_before r Free p = true
@@ -114,7 +114,7 @@ allowed_before r Inclination p = lies_in (range_of r inclination) (value Inclina
 allowed_before r Resistance p = lies_in (range_of r resistance) (value Resistance p)
 allowed_before r Power p = lies_in (range_of r power) (value Power p)
 allowed_before r HeartRate p = lies_in (range_of r heart_rate) (value HeartRate p)
-allowed_before r OneOrTwo p = in-range (pos 1) (pos 2) (value OneOrTwo p)
+allowed_before r OneOrTwo p = in_range (pos 1) (pos 2) (value OneOrTwo p)
 
 -- the opposite of "some range has least above greatest"
 abbrev pub ordered : Range → Bool

@@ -26,8 +26,8 @@ abbrev pub of_heart_rate : HeartRateRange → Range
 of_heart_rate r = record { least = pos r.least; greatest = pos r.greatest; increment = r.increment }
 
 -- "both allowed"
-abbrev pub in-range : ℤ → ℤ → ℤ → Bool
-in-range least greatest x = le_z least x && le_z x greatest
+abbrev pub in_range : ℤ → ℤ → ℤ → Bool
+in_range least greatest x = le_z least x && le_z x greatest
 
 -- W-206: "its distance from the least value"
 abbrev pub distance : ℤ → ℤ → ℕ
@@ -39,7 +39,7 @@ multiple increment n = eqb (n % increment) 0
 
 -- W-206: "A target is allowed when it is in the range and its distance from the least value is a multiple of the increment."
 abbrev pub admits : Range → ℤ → Bool
-admits r x = in-range r.least r.greatest x && multiple r.increment (distance r.least x)
+admits r x = in_range r.least r.greatest x && multiple r.increment (distance r.least x)
 
 -- the opposite of "some range has least above greatest", and of W-206's "16 also for an increment of 0"
 abbrev pub is_range : Range → Bool
@@ -64,7 +64,7 @@ bounded r Inclination x = admits (of_signed r.inclination) x
 bounded r Resistance x = admits (of_signed r.resistance) x
 bounded r Power x = admits (of_signed r.power) x
 bounded r HeartRate x = admits (of_heart_rate r.heart_rate) x
-bounded r OneOrTwo x = in-range (pos 1) (pos 2) x
+bounded r OneOrTwo x = in_range (pos 1) (pos 2) x
 
 -- the opposite of "value outside its range or 08 with neither 1 nor 2", of W-201's "result 03 for neither 1 nor 2", and of W-206's "result 03 also for a
 -- target off the steps"

@@ -2,7 +2,7 @@
 // increment, u16 (for heart rate u8)."
 ghost use Rattle.std.specs.Prelude.{◌≡◌, true, not, eqb, pos};
 ghost use Rattle.std.specs.Int.Signed.{le_z};
-ghost use Rattle.service.specs.Control.Ranges.{of_speed, of_signed, of_heart_rate, multiple, in-range, is_range, are_ranges};
+ghost use Rattle.service.specs.Control.Ranges.{of_speed, of_signed, of_heart_rate, multiple, in_range, is_range, are_ranges};
 ghost use Rattle.service.specs.Control.Ranges as RangesSpecs;
 
 use crate::control::op_codes::Bound;
@@ -142,7 +142,7 @@ pub(crate) fn are_ranges(r: Ranges) -> bool
 
 // The opposite of "neither 1 nor 2", of 08 and 13.
 fn is_one_or_two(x: u8) -> bool
-    ensures { result ≡ in-range (pos 1) (pos 2) (pos x) }
+    ensures { result ≡ in_range (pos 1) (pos 2) (pos x) }
 {
     1 <= x && x <= 2
 }
