@@ -29,7 +29,7 @@ def functions(tokens):
     """The tokens of each function: its parameters' names, and its body."""
     for i, token in enumerate(tokens):
         if token.text == "fn":
-            head = i + 2
+            head = next(j for j in range(i, len(tokens)) if tokens[j].text == "(")
             end = closed(tokens, head)
             names = [tokens[j - 1].text for j in range(head, end) if tokens[j].text == ":" and tokens[j - 1].kind == "word"]
             start = body(tokens, i)
