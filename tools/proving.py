@@ -11,10 +11,16 @@ import time
 from edits import LIBRARIES, RELYING
 
 LIMIT = 600  # seconds for one check
+SHOWING_NOTHING = ("no program", "by a name")  # the verdicts on an edit that say nothing of the contracts
 MADE = "out"  # the folder of a crate in which `rt` keeps its work
 
 # The libraries that are checked in one run: the top one, with the others as source.
 TOP, UNDER = "demands", ["record", "service", "text", "listing", "phone", "phone_c", "reference"]
+
+# A line of the prover with a place, and one of a proof that names what is not there or stands on such a proof.
+PLACE = re.compile(r"^(note: )?(\S+:\d+:\d+):.*", re.M)
+NAMES = re.compile(r"(?:note: )?\S*\bproofs/.*(?:has no field|is not in scope|has no `|was not admitted)")
+
 ROOT = os.path.dirname(os.path.dirname(os.path.abspath(__file__)))
 
 
@@ -63,7 +69,7 @@ class Copy:
         if status == 0 and re.search(r"^logic=proved", said, re.M):
             return "survived", "", said
         if status == 1 and re.search(r"^logic=not-proved", said, re.M):
-            return "refused", first_refused(said, crate), said
+            return *first_refused(said, crate), said
         if status in (1, 2):
             return "no program", first_error(said, crate), said
         return "undecided", f"no answer in {LIMIT} s" if status is None else f"exit {status}", said
@@ -140,9 +146,12 @@ def place_in(crate, path):
 
 
 def first_refused(said, crate):
-    """The first place that the prover names: a function whose proof fails, or a file."""
-    found = re.search(r"^(\S+): error", said, re.M) or re.search(r"^note: (\S+:\d+:\d+):", said, re.M)
-    return place_in(crate, found.group(1)) if found else "?"
+    """The first place that the prover names: a function whose proof fails, or a file; and whether it refuses more than proofs that name what the edit
+    took away, as a goal that is called by a value."""
+    places = [found for found in PLACE.finditer(said) if found[1] or ": error" in found[0]]
+    real = [found for found in places if not NAMES.match(found[0])]
+    verdict = "refused" if real or not places else "by a name"
+    return verdict, place_in(crate, (real or places)[0][2]) if places else "?"
 
 
 def first_error(said, crate):

@@ -14,8 +14,9 @@
     --run          for each twin, also a program whose output changes
     --report FILE  writes the rows to this file of docs/strength/, whole
 
-An edit is made in a copy of the repository and checked there by `rt dev`, and the file is restored. `refused`: the prover does not prove the code.
-`no program`: the compiler rejects the text; the edit shows nothing, and another is drawn. `survived`: the crate is still proved, and so is every
+An edit is made in a copy of the repository and checked there by `rt check`, and the file is restored. `refused`: the prover does not prove the code.
+`no program`: the compiler rejects the text; the edit shows nothing, and another is drawn. `by a name`: it is refused only where a proof names what the
+edit took away, as a goal that is called by a value; this too shows nothing, and another is drawn. `survived`: the crate is still proved, and so is every
 library above it, and `ftlist`. One prover runs at a time; its last output is in the copy's target/last.out. The exit status is 0 if nothing survived.
 
 A twin is noticed `by computation` if a theorem fails whose proof is that both sides compute to the same value, and `by a law` if another theorem
@@ -33,7 +34,7 @@ sys.dont_write_bytecode = True
 
 from edits import Source, asked_for, constant_sites, full_name, region, sites_of, untried, wrong_programs
 from larger import try_larger
-from proving import ROOT, Copy, short, told
+from proving import ROOT, SHOWING_NOTHING, Copy, short, told
 from reporting import command, row, write
 from twins import try_twins
 
@@ -70,15 +71,15 @@ def sample(copy, asked):
             began = time.time()
             verdict, where = copy.judge(site.file, site.start, site.end, new)
             tally[verdict] = tally.get(verdict, 0) + 1
-            number = "-" if verdict == "no program" else str(len(rows) + 1)
+            number = "-" if verdict in SHOWING_NOTHING else str(len(rows) + 1)
             print(f"{number} {site.place} `{site.shown}` {site.old} -> {new or '(nothing)'}: {verdict} {where} "
                   f"({time.time() - began:.0f} s)", flush=True)
-            if verdict != "no program":
+            if verdict not in SHOWING_NOTHING:
                 rows.append(row(number, f"`{site.place}`", f"`{short(site.shown)}`", f"`{short(site.old)}` → `{short(new)}`", told(verdict, where)))
                 break
     print(f"{len(places)} places, seed {asked.seed}: " + ", ".join(f"{n} {verdict}" for verdict, n in sorted(tally.items())))
     write(asked, title(asked), [("", ["no.", "place", "line", "edit", "first refused at"], rows)])
-    return tally.keys() <= {"refused", "no program"}
+    return tally.keys() <= {"refused", *SHOWING_NOTHING}
 
 
 def place_of(text, program):
