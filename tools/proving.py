@@ -11,7 +11,7 @@ import time
 from edits import LIBRARIES, RELYING
 
 LIMIT = 600  # seconds for one check
-SHOWING_NOTHING = ("no program", "by a name")  # the verdicts on an edit that say nothing of the contracts
+SHOWING_NOTHING = ("no program", "a name alone")  # the verdicts on an edit that say nothing of the contracts
 MADE = "out"  # the folder of a crate in which `rt` keeps its work
 
 # The libraries that are checked in one run: the top one, with the others as source.
@@ -150,7 +150,7 @@ def first_refused(said, crate):
     took away, as a goal that is called by a value."""
     places = [found for found in PLACE.finditer(said) if found[1] or ": error" in found[0]]
     real = [found for found in places if not NAMES.match(found[0])]
-    verdict = "refused" if real or not places else "by a name"
+    verdict = "refused" if real or not places else "a name alone"
     return verdict, place_in(crate, (real or places)[0][2]) if places else "?"
 
 

@@ -9,13 +9,13 @@
     python3 tools/strength.py --list            the places that the sample is drawn from, and proves nothing
 
     -n N           how many edits are judged            --seed S       another sample
-    --copy DIR     the copy to work in (target/strength) --only WORDS  the wrong programs, twins or rules of --larger with one of these words
+    --copy DIR     the copy to work in (below /tmp)      --only WORDS  the wrong programs, twins or rules of --larger with one of these words
     --skip WORDS   the sample leaves out files with one of these words in their name (here, and in --only, a comma between two)
     --run          for each twin, also a program whose output changes
     --report FILE  writes the rows to this file of docs/strength/, whole
 
 An edit is made in a copy of the repository and checked there by `rt check`, and the file is restored. `refused`: the prover does not prove the code.
-`no program`: the compiler rejects the text; the edit shows nothing, and another is drawn. `by a name`: it is refused only where a proof names what the
+`no program`: the compiler rejects the text; the edit shows nothing, and another is drawn. `a name alone`: it is refused only where a proof names what the
 edit took away, as a goal that is called by a value; this too shows nothing, and another is drawn. `survived`: the crate is still proved, and so is every
 library above it, and `ftlist`. One prover runs at a time; its last output is in the copy's target/last.out. The exit status is 0 if nothing survived.
 
@@ -28,6 +28,7 @@ import os
 import random
 import re
 import sys
+import tempfile
 import time
 
 sys.dont_write_bytecode = True
@@ -127,7 +128,7 @@ def arguments():
     words.add_argument("--list", action="store_true")
     words.add_argument("--only", default="")
     words.add_argument("--skip", default="")
-    words.add_argument("--copy", default=os.path.join(ROOT, "target", "strength"))
+    words.add_argument("--copy", default=os.path.join(tempfile.gettempdir(), "hordivasz-strength"))  # `rt ci` wants no code beside crates/
     words.add_argument("--report")
     asked = words.parse_args()
     asked.command = command(asked, words.get_default)

@@ -97,10 +97,10 @@ class Verdict:
                 self.errors.append(f"{place[0]}:{at}: {name}: {words[:300]}")
 
     def word(self):
+        if self.functions and self.verdict in ("refused", "a name alone"):
+            return "not carried through"
         if self.verdict != "refused":
             return self.verdict
-        if self.functions:
-            return "not carried through"
         return "by computation" if self.computed else "by a law"
 
 
