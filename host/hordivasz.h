@@ -3,10 +3,10 @@
  * record into notifications, and listing a capture of notifications. The widths of the fields are
  * this reference's; the page on departures says where else it differs from the service's own text.
  *
- * Where it runs: on x86-64 with Linux only, because the Rattle kit that proves and compiles the
- * library has no other back end today. There is no build for a phone or a microcontroller. An app's
- * team can link it into servers and tests on x86-64, and use it there as the judge of its own code:
- * what a call answers is proved of its source, and the machine code is tested.
+ * Where it runs: on x86-64 with Linux only, as the Rattle kit does that proves and compiles it.
+ * There is no build for a phone or a microcontroller. An app's team can link it into servers and
+ * tests on x86-64, and use it there as the judge of its own code: what a call answers is proved of
+ * its source, and the machine code is tested.
  *
  * Link with libhordivasz.a, a static, position-independent library that calls no other. The calls
  * allocate no memory, keep nothing between calls and may be made from several threads at once.

@@ -7,7 +7,7 @@ import os
 import re
 import sys
 
-LIBRARIES = ["record", "service", "text", "reference", "output", "listing", "demands", "phone"]
+LIBRARIES = ["record", "service", "text", "reference", "output", "listing", "demands", "phone", "phone_c"]
 
 # A program whose proof depends on more of a library than the contracts of its calls: on how long a step's lines are.
 RELYING = ["ftlist"]
@@ -55,8 +55,8 @@ def closed(tokens, i):
 
 
 def body(tokens, i):
-    """The index of the bracket that opens the body of the function whose head is at i: it follows the contract."""
-    while tokens[i].text != "{" or tokens[i - 1].text in ("requires", "ensures"):
+    """The index of the bracket that opens the body of the function whose head is at i: it follows the contract, whose clauses may have names."""
+    while tokens[i].text != "{" or {tokens[i - 1].text, tokens[i - 2].text} & {"requires", "ensures"}:
         i = closed(tokens, i) if tokens[i].text in "([{" else i + 1
     return i
 
@@ -69,7 +69,7 @@ def running(tokens):
         if t in ("use", "mod"):
             i = behind(tokens, i, {";"})
         elif t == "#":
-            i = closed(tokens, i + 1)
+            i = closed(tokens, i + 1 + (tokens[i + 1].text == "!"))
         elif t in ("struct", "enum"):
             while tokens[i].text not in "{(":
                 i += 1

@@ -7,7 +7,7 @@ import random
 import time
 
 from edits import KEYWORDS, PRINTING, RELYING, asked_for, body, closed, tokens_of
-from proving import short, told
+from proving import SHOWING_NOTHING, short, told
 from reporting import row, write
 
 ASSIGN = {"=", "+=", "-="}
@@ -29,7 +29,7 @@ def functions(tokens):
     """The tokens of each function: its parameters' names, and its body."""
     for i, token in enumerate(tokens):
         if token.text == "fn":
-            head = i + 2
+            head = next(j for j in range(i, len(tokens)) if tokens[j].text == "(")
             end = closed(tokens, head)
             names = [tokens[j - 1].text for j in range(head, end) if tokens[j].text == ":" and tokens[j - 1].kind == "word"]
             start = body(tokens, i)
@@ -171,9 +171,9 @@ def try_larger(copy, source, asked):
             verdict, where = judge(copy, site, new)
             tally[verdict] = tally.get(verdict, 0) + 1
             print(f"{rule}: {site.place} `{short(site.old)}` -> `{short(new)}`: {verdict} {where} ({time.time() - began:.0f} s)", flush=True)
-            if verdict != "no program":
+            if verdict not in SHOWING_NOTHING:
                 judged += 1
                 rows.append(row(rule, f"`{site.place}`", f"`{short(site.old)}` → `{short(new)}`", told(verdict, where)))
     print(f"seed {asked.seed}: " + ", ".join(f"{n} {verdict}" for verdict, n in sorted(tally.items())))
     write(asked, f"The sample of {EACH * len(RULES)} edits of more than one token", [("", ["rule", "place", "edit", "first refused at"], rows)])
-    return tally.keys() <= {"refused", "no program"}
+    return tally.keys() <= {"refused", *SHOWING_NOTHING}

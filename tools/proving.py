@@ -11,9 +11,16 @@ import time
 from edits import LIBRARIES, RELYING
 
 LIMIT = 600  # seconds for one check
+SHOWING_NOTHING = ("no program", "a name alone")  # the verdicts on an edit that say nothing of the contracts
+MADE = "out"  # the folder of a crate in which `rt` keeps its work
 
 # The libraries that are checked in one run: the top one, with the others as source.
-TOP, UNDER = "demands", ["record", "service", "text", "listing", "phone", "reference"]
+TOP, UNDER = "demands", ["record", "service", "text", "listing", "phone", "phone_c", "reference"]
+
+# A line of the prover with a place, and one of a proof that names what is not there or stands on such a proof.
+PLACE = re.compile(r"^(note: )?(\S+:\d+:\d+):.*", re.M)
+NAMES = re.compile(r"(?:note: )?\S*\bproofs/.*(?:has no field|is not in scope|has no `|was not admitted)")
+
 ROOT = os.path.dirname(os.path.dirname(os.path.abspath(__file__)))
 
 
@@ -22,25 +29,29 @@ class Copy:
 
     def __init__(self, where):
         self.where = where
-        os.makedirs(where, exist_ok=True)
-        shutil.rmtree(os.path.join(where, "crates"), ignore_errors=True)
-        shutil.copytree(os.path.join(ROOT, "crates"), os.path.join(where, "crates"))
+        for top, folders, files in os.walk(os.path.join(where, "crates"), topdown=False):
+            if MADE not in os.path.relpath(top, where).split(os.sep):
+                for file in files:
+                    os.remove(os.path.join(top, file))
+                if not os.listdir(top):
+                    os.rmdir(top)
+        shutil.copytree(os.path.join(ROOT, "crates"), os.path.join(where, "crates"), ignore=shutil.ignore_patterns(MADE), dirs_exist_ok=True)
         shutil.copy2(os.path.join(ROOT, "crates.txt"), where)
         self.below = {}
         for line in open(os.path.join(where, "crates.txt")):
             name, _, below = line.partition("#")[0].partition(":")
             if name.strip():
-                self.below[name.strip()] = below.split()
+                self.below[name.split()[0]] = below.split()
         self.above = {name: [other for other in LIBRARIES + RELYING if name in self.below[other]] for name in LIBRARIES}
         self.programs = [name for name in self.below if os.path.exists(self.path(name + "/src/main.rt"))]
 
     def path(self, file):
         return os.path.join(self.where, "crates", file)
 
-    def run(self, *words):
-        """What a command of `rt` prints, and its exit status: None if it took too long and was stopped."""
-        run = subprocess.Popen(["rt", *words], cwd=self.where, stdout=subprocess.PIPE, stderr=subprocess.STDOUT, text=True,
-                               errors="replace", start_new_session=True, env=dict(os.environ, RT_CUT="0", RT_JOBS="1"))
+    def run(self, crate, *words):
+        """What a command of `rt` prints in a crate's folder, and its exit status: None if it took too long and was stopped."""
+        run = subprocess.Popen(["rt", *words], cwd=self.path(crate), stdin=subprocess.DEVNULL, stdout=subprocess.PIPE, stderr=subprocess.STDOUT,
+                               text=True, errors="replace", start_new_session=True)
         try:
             said, _ = run.communicate(timeout=LIMIT)
         except subprocess.TimeoutExpired:
@@ -54,13 +65,13 @@ class Copy:
 
     def check(self, crate, *words):
         """The verdict on a crate and its dependencies, where it was first refused, and the whole output."""
-        said, status = self.run("dev", crate, *words)
+        said, status = self.run(crate, "check", *words)
         if status == 0 and re.search(r"^logic=proved", said, re.M):
             return "survived", "", said
         if status == 1 and re.search(r"^logic=not-proved", said, re.M):
-            return "refused", first_refused(said, self.where), said
+            return *first_refused(said, crate), said
         if status in (1, 2):
-            return "no program", said.strip().split("\n")[0][:120], said
+            return "no program", first_error(said, crate), said
         return "undecided", f"no answer in {LIMIT} s" if status is None else f"exit {status}", said
 
     def together(self):
@@ -69,7 +80,7 @@ class Copy:
         lines = open(path).read()
         with open(path, "w") as out:  # without its dependencies, which are given as source below
             out.write(re.sub(rf"^{TOP}:.*$", f"{TOP}:", lines, flags=re.M))
-        self.words = [word for name in UNDER for word in ("--lib", f"{name}:{','.join(self.below[name])}=crates/{name}/src/lib.rt")]
+        self.words = [word for name in UNDER for word in ("--lib", f"{name}:{','.join(['std', *self.below[name]])}=../{name}/src/lib.rt")]
         began = time.time()
         verdict, where, _ = self.check_all()
         word = "proved" if verdict == "survived" else verdict + " " + where
@@ -129,8 +140,21 @@ def told(verdict, where):
     return f"`{where}`" if verdict == "refused" else f"**{verdict}** {where}"
 
 
-def first_refused(said, where):
-    """The first place that the prover names: a function whose proof fails, or a file."""
-    found = re.search(r"^(\S+): error", said, re.M) or re.search(r"^note: (\S+:\d+:\d+):", said, re.M)
-    place = found.group(1) if found else "?"
-    return place.replace(where + "/", "").replace("crates/", "")
+def place_in(crate, path):
+    """A path as `rt` prints it, from the crate's folder, as one from the folder of all crates."""
+    return os.path.normpath(os.path.join(crate, path))
+
+
+def first_refused(said, crate):
+    """The first place that the prover names: a function whose proof fails, or a file; and whether it refuses more than proofs that name what the edit
+    took away, as a goal that is called by a value."""
+    places = [found for found in PLACE.finditer(said) if found[1] or ": error" in found[0]]
+    real = [found for found in places if not NAMES.match(found[0])]
+    verdict = "refused" if real or not places else "a name alone"
+    return verdict, place_in(crate, (real or places)[0][2]) if places else "?"
+
+
+def first_error(said, crate):
+    """Why the compiler rejects a text."""
+    found = re.search(r"^(\S+)(: error.*)", said, re.M)
+    return (place_in(crate, found[1]) + found[2])[:120] if found else said.strip().split("\n")[-1][:120]

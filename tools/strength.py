@@ -9,13 +9,14 @@
     python3 tools/strength.py --list            the places that the sample is drawn from, and proves nothing
 
     -n N           how many edits are judged            --seed S       another sample
-    --copy DIR     the copy to work in (target/strength) --only WORDS  the wrong programs, twins or rules of --larger with one of these words
+    --copy DIR     the copy to work in (below /tmp)      --only WORDS  the wrong programs, twins or rules of --larger with one of these words
     --skip WORDS   the sample leaves out files with one of these words in their name (here, and in --only, a comma between two)
     --run          for each twin, also a program whose output changes
     --report FILE  writes the rows to this file of docs/strength/, whole
 
-An edit is made in a copy of the repository and checked there by `rt dev`, and the file is restored. `refused`: the prover does not prove the code.
-`no program`: the compiler rejects the text; the edit shows nothing, and another is drawn. `survived`: the crate is still proved, and so is every
+An edit is made in a copy of the repository and checked there by `rt check`, and the file is restored. `refused`: the prover does not prove the code.
+`no program`: the compiler rejects the text; the edit shows nothing, and another is drawn. `a name alone`: it is refused only where a proof names what the
+edit took away, as a goal that is called by a value; this too shows nothing, and another is drawn. `survived`: the crate is still proved, and so is every
 library above it, and `ftlist`. One prover runs at a time; its last output is in the copy's target/last.out. The exit status is 0 if nothing survived.
 
 A twin is noticed `by computation` if a theorem fails whose proof is that both sides compute to the same value, and `by a law` if another theorem
@@ -27,13 +28,14 @@ import os
 import random
 import re
 import sys
+import tempfile
 import time
 
 sys.dont_write_bytecode = True
 
 from edits import Source, asked_for, constant_sites, full_name, region, sites_of, untried, wrong_programs
 from larger import try_larger
-from proving import ROOT, Copy, short, told
+from proving import ROOT, SHOWING_NOTHING, Copy, short, told
 from reporting import command, row, write
 from twins import try_twins
 
@@ -70,15 +72,15 @@ def sample(copy, asked):
             began = time.time()
             verdict, where = copy.judge(site.file, site.start, site.end, new)
             tally[verdict] = tally.get(verdict, 0) + 1
-            number = "-" if verdict == "no program" else str(len(rows) + 1)
+            number = "-" if verdict in SHOWING_NOTHING else str(len(rows) + 1)
             print(f"{number} {site.place} `{site.shown}` {site.old} -> {new or '(nothing)'}: {verdict} {where} "
                   f"({time.time() - began:.0f} s)", flush=True)
-            if verdict != "no program":
+            if verdict not in SHOWING_NOTHING:
                 rows.append(row(number, f"`{site.place}`", f"`{short(site.shown)}`", f"`{short(site.old)}` → `{short(new)}`", told(verdict, where)))
                 break
     print(f"{len(places)} places, seed {asked.seed}: " + ", ".join(f"{n} {verdict}" for verdict, n in sorted(tally.items())))
     write(asked, title(asked), [("", ["no.", "place", "line", "edit", "first refused at"], rows)])
-    return tally.keys() <= {"refused", "no program"}
+    return tally.keys() <= {"refused", *SHOWING_NOTHING}
 
 
 def place_of(text, program):
@@ -126,7 +128,7 @@ def arguments():
     words.add_argument("--list", action="store_true")
     words.add_argument("--only", default="")
     words.add_argument("--skip", default="")
-    words.add_argument("--copy", default=os.path.join(ROOT, "target", "strength"))
+    words.add_argument("--copy", default=os.path.join(tempfile.gettempdir(), "hordivasz-strength"))  # `rt ci` wants no code beside crates/
     words.add_argument("--report")
     asked = words.parse_args()
     asked.command = command(asked, words.get_default)

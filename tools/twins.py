@@ -9,11 +9,12 @@ before each new one; + lines alone make a new file. `every` before a text means 
 """
 import os
 import re
+import shutil
 import sys
 import time
 
 from edits import asked_for
-from proving import ROOT, TOP, short
+from proving import ROOT, TOP, place_in, short
 from reporting import row, write
 
 # The parts of document 01 by the word in a twin's head, each with its heading in the report.
@@ -89,17 +90,17 @@ class Verdict:
         self.functions = [name for name in re.findall(r"^fn (\S+): (?!proved)", said, re.M) if not name.startswith(TOP + "::")]
         self.computed, self.laws, self.errors = [], [], []
         for file, at, name, words in re.findall(r"^(\S+?):(\d+:\d+): error: `([^`]+)`: (.*)", said, re.M):
-            place = (file.split("crates/")[-1], name)
+            place = (place_in(TOP, file), name)
             found = self.computed if by_computation(copy.path(place[0]), name) else self.laws
             if "was not admitted" not in words and place not in found:
                 found.append(place)
                 self.errors.append(f"{place[0]}:{at}: {name}: {words[:300]}")
 
     def word(self):
+        if self.functions and self.verdict in ("refused", "a name alone"):
+            return "not carried through"
         if self.verdict != "refused":
             return self.verdict
-        if self.functions:
-            return "not carried through"
         return "by computation" if self.computed else "by a law"
 
 
@@ -119,7 +120,9 @@ def modules(copy):
             for base in bases:
                 path = os.path.join(folder, base)
                 text = open(path).read()
-                names = {(crate if first == "crate" else first, second) for first, second in re.findall(r"\b(\w+)::(\w+)", text)}
+                pairs = re.findall(r"\b(\w+)::(\w+)", text)
+                pairs += [(first, second) for first, listed in re.findall(r"\b(\w+)::\{([^}]*)\}", text) for second in re.findall(r"\w+", listed)]
+                names = {(crate if first == "crate" else first, second) for first, second in pairs}
                 if base == "main.rt":
                     names |= {(crate, name) for name in re.findall(r"^mod (\w+);", text, re.M)}
                 module = os.path.relpath(path, top).split("/")[0].removesuffix(".rt")
@@ -144,15 +147,24 @@ def reaching(copy, files):
 
 
 def noticing(copy, files):
-    """The first program, those with the fewest dependencies first, that reaches an edited file and does not print its `stdout`; or none. A program may
-    need more steps than the interpreter allows: then the compiled ones count."""
+    """The first program, those with the fewest dependencies first, that reaches an edited file and does not print its `stdout`; or none."""
     for name in sorted(reaching(copy, files), key=lambda name: len(copy.below[name])):
-        said, status = copy.run("try", name)
-        if status == 1 and "did not write what is expected" in said:
+        said, status = copy.run(name, "try", "--cases", case_of(copy, name))
+        if status == 5 and re.search(r"^case=run run=ended .* output=differs ", said, re.M):
             return name
-        if status != 0 and "need more steps than this run allows" not in said:
-            sys.exit(f"strength: {name} does not run: " + said.strip().split("\n")[0])
+        if status != 0:
+            sys.exit(f"strength: {name} does not run: " + said.strip().split("\n")[-1])
     return "none"
+
+
+def case_of(copy, name):
+    """A folder with what a program reads and must print, as `rt try` takes it."""
+    case = os.path.join(copy.where, "target", "cases", name)
+    os.makedirs(case, exist_ok=True)
+    for file, given in (("run", "stdin"), ("run.stdout", "stdout")):
+        given = copy.path(f"{name}/{given}")
+        shutil.copyfile(given if os.path.exists(given) else os.devnull, os.path.join(case, file))
+    return case
 
 
 def shown(theorems):

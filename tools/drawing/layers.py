@@ -10,7 +10,8 @@ LIBRARIES = {
     "reference": (130, 280, "tables of a kind, in Markdown"),
     "listing": (280, 490, "a capture as lines of text"),
     "demands": (490, 660, "the demands, stated and proved"),
-    "phone": (280, 490, "the calls from C"),
+    "phone": (280, 490, "what the calls from C do"),
+    "phone_c": (280, 490, "the calls from C, as a library for C"),
 }
 TINTED = {"record": TINTS[0], "service": TINTS[1]}
 
@@ -27,7 +28,7 @@ PROGRAMS = {
 }
 
 # What is drawn after the programs and is not a crate, with its words and what it uses.
-HOST = ("host/", "C header, example, tests", ["phone", "ftlist", "replay"])
+HOST = ("host/", "C header, example, tests", ["phone_c", "ftlist", "replay"])
 
 GAP = 4
 BRICK = 47

@@ -15,7 +15,7 @@ def crates():
         name, colon, used = line.partition(":")
         if not colon:
             raise Fault(f"crates.txt: a line without a colon: {line}")
-        found[name.strip()] = used.split()
+        found[name.split()[0]] = used.split()  # the name may have `staticlib` behind it
     return found
 
 

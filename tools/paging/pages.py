@@ -16,7 +16,8 @@ NAME = re.compile(r"`([^`]+)`")
 def known():
     """Every word of the crates' code, definitions and theorems, and the names of the programs and of their files."""
     words = set()
-    for folder, _, files in os.walk("crates"):
+    for folder, folders, files in os.walk("crates"):
+        folders[:] = [name for name in folders if name != "out"]  # what rt made
         words.update(folder.split("/")[-1:])
         for file in files:
             if file.endswith((".rt", ".antt")):
