@@ -7,7 +7,7 @@ import random
 import time
 
 from edits import KEYWORDS, PRINTING, RELYING, asked_for, body, closed, tokens_of
-from proving import SHOWING_NOTHING, short, told
+from proving import SHOWING_NOTHING, TOP, short, told
 from reporting import row, write
 
 ASSIGN = {"=", "+=", "-="}
@@ -149,8 +149,7 @@ def larger_sites(source):
 def judge(copy, site, new):
     """The verdict of all the libraries on an edit, and of what depends on more of them than their contracts."""
     text = open(copy.path(site.file)).read()
-    with copy.edited({site.file: text[:site.start] + new + text[site.end:]}):
-        verdict, where, _ = copy.check_all()
+    with copy.settled({site.file: text[:site.start] + new + text[site.end:]}, TOP, copy.check_all) as (verdict, where):
         for name in RELYING if verdict == "survived" else []:
             verdict, where, _ = copy.check(name)
     return verdict, where

@@ -11,7 +11,9 @@ import time
 from edits import LIBRARIES, RELYING
 
 LIMIT = 600  # seconds for one check
-SHOWING_NOTHING = ("no program", "a name alone")  # the verdicts on an edit that say nothing of the contracts
+A_NAME = "a name alone"
+SHOWING_NOTHING = ("no program", A_NAME)  # the verdicts on an edit that say nothing of the contracts
+ROUNDS = 4  # how often answers are left out that name what an edit took away
 MADE = "out"  # the folder of a crate in which `rt` keeps its work
 
 # The libraries that are checked in one run: the top one, with the others as source.
@@ -117,12 +119,35 @@ class Copy:
                     out.write(text)
                 os.utime(self.path(file), ns=(times.st_atime_ns, times.st_mtime_ns))
 
+    @contextlib.contextmanager
+    def settled(self, texts, crate, check):
+        """Gives some files other texts, and the verdict of a check on them. Where a function's answers name what is gone, it is checked again without these, so
+        that the prover looks for proofs itself."""
+        with contextlib.ExitStack() as edits:
+            edits.enter_context(self.edited(texts))
+            verdict, where, said = check()
+            for _ in range(ROUNDS):
+                fewer = self.without_answers(crate, said) if verdict == A_NAME else {}
+                if not fewer:
+                    break
+                edits.enter_context(self.edited(fewer))
+                verdict, where, said = check()
+            yield verdict, where
+
+    def without_answers(self, crate, said):
+        """The files of answers in which the prover named one that speaks of what is gone, without those answers."""
+        gone = {}
+        for found in PLACE.finditer(said):
+            path, line, _ = place_in(crate, found[2]).rsplit(":", 2)
+            if NAMES.match(found[0]) and path.endswith("/Answers.antt"):
+                gone.setdefault(path, set()).add(int(line))
+        return {path: without(open(self.path(path)).read(), lines) for path, lines in gone.items()}
+
     def judge(self, file, start, end, new):
         """Judges a replacement in one file: its crate, then each library above it."""
         crate = file.split("/")[0]
         text = open(self.path(file)).read()
-        with self.edited({file: text[:start] + new + text[end:]}):
-            verdict, where, _ = self.check(crate)
+        with self.settled({file: text[:start] + new + text[end:]}, crate, lambda: self.check(crate)) as (verdict, where):
             if verdict == "survived":
                 for name in self.above[crate]:
                     verdict, where, _ = self.check(name)
@@ -150,8 +175,19 @@ def first_refused(said, crate):
     took away, as a goal that is called by a value."""
     places = [found for found in PLACE.finditer(said) if found[1] or ": error" in found[0]]
     real = [found for found in places if not NAMES.match(found[0])]
-    verdict = "refused" if real or not places else "a name alone"
+    verdict = "refused" if real or not places else A_NAME
     return verdict, place_in(crate, (real or places)[0][2]) if places else "?"
+
+
+def without(text, lines):
+    """A file of answers without those that stand on some lines: each begins with its type, at the left edge."""
+    kept, block = [], []
+    for number, line in enumerate([*text.split("\n"), None], 1):
+        if line is None or re.match(r"(pub )?[^\s:]+ :( |$)|--|use ", line):
+            kept += [] if any(at in lines for at, _ in block) else block
+            block = []
+        block.append((number, line))
+    return "\n".join(line for _, line in kept)
 
 
 def first_error(said, crate):

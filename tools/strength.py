@@ -16,8 +16,9 @@
 
 An edit is made in a copy of the repository and checked there by `rt check`, and the file is restored. `refused`: the prover does not prove the code.
 `no program`: the compiler rejects the text; the edit shows nothing, and another is drawn. `a name alone`: it is refused only where a proof names what the
-edit took away, as a goal that is called by a value; this too shows nothing, and another is drawn. `survived`: the crate is still proved, and so is every
-library above it, and `ftlist`. One prover runs at a time; its last output is in the copy's target/last.out. The exit status is 0 if nothing survived.
+edit took away, as a goal that is called by a value; this too shows nothing, and another is drawn. Before that, answers that do so are left out, and the
+prover looks for a proof itself. `survived`: the crate is still proved, and so is every library above it, and `ftlist`. One prover runs at a time; its last
+output is in the copy's target/last.out. The exit status is 0 if nothing survived.
 
 A twin is noticed `by computation` if a theorem fails whose proof is that both sides compute to the same value, and `by a law` if another theorem
 fails; then the programs are run even without --run. `UNNOTICED`: all is proved, and no program's output changes. `not carried through`: a function

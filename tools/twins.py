@@ -14,7 +14,7 @@ import sys
 import time
 
 from edits import asked_for
-from proving import ROOT, TOP, place_in, short
+from proving import A_NAME, ROOT, TOP, place_in, short
 from reporting import row, write
 
 # The parts of document 01 by the word in a twin's head, each with its heading in the report.
@@ -97,7 +97,7 @@ class Verdict:
                 self.errors.append(f"{place[0]}:{at}: {name}: {words[:300]}")
 
     def word(self):
-        if self.functions and self.verdict in ("refused", "a name alone"):
+        if self.functions and self.verdict in ("refused", A_NAME):
             return "not carried through"
         if self.verdict != "refused":
             return self.verdict
