@@ -16,9 +16,9 @@ use Rattle.record.specs.Split.{meant}
 use Rattle.record.proofs.Tests.{eqb_true}
 use Rattle.record.proofs.split.split.Kinds as kinds
 use Rattle.record.proofs.split.split.Reads as split
-use Rattle.service.proofs.collector.collect.Kinds as collect-kinds
+use Rattle.service.proofs.collector.collect.Kinds as collect_kinds
 use Rattle.service.proofs.collector.collect.Reads as collect
-use Rattle.service.proofs.collector.open.Kinds as open-kinds
+use Rattle.service.proofs.collector.open.Kinds as open_kinds
 use Rattle.service.proofs.collector.open.Reads as opening
 use Rattle.service.specs.declared.collector.Collection.{Collection}
 use Rattle.service.specs.declared.collector.Opened.{Opened}
@@ -44,8 +44,8 @@ module _ (κs : Lfts 1) (lend : List ℕ → (ℕ × ℕ) × GName) (reply : Rec
   by_contract meets = record { answers = λ r payload i out. (meets r payload i out).0; leaves = λ r payload i out. (meets r payload i out).1 }
 
 -- the same for a collector: any steps that meet the contract of `service::collector::collect`, and any openings that meet that of `open`
-module _ (κs : Lfts 1) (lend : List ℕ → (ℕ × ℕ) × GName) (step : Collection → List ℕ → Step) (exit : Collection → List ℕ → AtExit (ended_of 1 collect-kinds.ps collect-kinds.r) κs)
-    (begin : ℕ → Told → Opened) (end : ℕ → Told → AtExit (ended_of 0 open-kinds.ps open-kinds.r) tt) where
+module _ (κs : Lfts 1) (lend : List ℕ → (ℕ × ℕ) × GName) (step : Collection → List ℕ → Step) (exit : Collection → List ℕ → AtExit (ended_of 1 collect_kinds.ps collect_kinds.r) κs)
+    (begin : ℕ → Told → Opened) (end : ℕ → Told → AtExit (ended_of 0 open_kinds.ps open_kinds.r) tt) where
   pub by_contracts :
       ((c : Collection) (s : List ℕ) → collect.Post κs (c, (record { ref_ptr = (lend s).0; now = s }, tt)) (step c s) (exit c s)) →
       ((kind : ℕ) (told : Told) → opening.Post tt (kind, (told, tt)) (begin kind told) (end kind told)) →

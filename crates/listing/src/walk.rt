@@ -4,8 +4,10 @@ ghost use Rattle.record.specs.Refusal.{number_of};
 ghost use Rattle.service.specs.Collector.{meant};
 ghost use Rattle.text.specs.Text.{Wrote};
 ghost use Rattle.listing.specs.Lines.{refused_line, longest};
-ghost use Rattle.listing.specs.Listing.{said_lines, number_after as Listing·number-after, begins, lines_of, state_after};
-ghost use Rattle.listing.specs.Steps.{Took, ends, beginning, at_beginning, at_notification, step as Steps-step};
+ghost use Rattle.listing.specs.Listing.{said_lines, begins, lines_of, state_after};
+ghost use Rattle.listing.specs.Listing as ListingSpecs;
+ghost use Rattle.listing.specs.Steps.{Took, ends, beginning, at_beginning, at_notification};
+ghost use Rattle.listing.specs.Steps as StepsSpecs;
 
 use crate::lines::{put_record, put_refused};
 use record::groups::is_known;
@@ -79,7 +81,7 @@ fn put_answer(out: &mut [u8], at: usize, number: u32, answer: Collected) -> usiz
 
 // The number of the next record after an answer.
 fn number_after(number: u32, answer: Collected) -> u32
-    ensures { result ≡ Listing·number-after number (meant answer) }
+    ensures { result ≡ ListingSpecs.number_after number (meant answer) }
 {
     match answer {
         Collected::Waiting { dropped: _ } => number,
@@ -204,7 +206,7 @@ pub fn begin() -> Walk
 
 // One step of a walk over a capture: its lines, written at a position of a lent buffer, and the walk after it. A step's lines never exceed `LONGEST_LINES`.
 pub fn step(out: &mut [u8], at: usize, walk: Walk, capture: &[u8]) -> Stepped
-    ensures { Took out.old at (Steps-step walk capture.now) out.new result }
+    ensures { Took out.old at (StepsSpecs.step walk capture.now) out.new result }
 {
     if walk.ended {
         return end(at, walk);

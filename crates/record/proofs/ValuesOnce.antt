@@ -2,11 +2,11 @@
 use Rattle.record.proofs.Once.{Once, same}
 use Rattle.record.proofs.formed.formed.Reads as formed
 use Rattle.record.proofs.formed.well_formed.Reads as well_formed
-use Rattle.record.proofs.numbers.numbers_of.Reads as Numbers-of
+use Rattle.record.proofs.numbers.numbers_of.Reads as numbers_of
 use Rattle.record.proofs.numbers.record_of.Reads as record_of
 
 pub formed_once : Once formed.Post × Once well_formed.Post
 formed_once = (λ κs a x y s t. same, λ κs a x y s t. same)
 
-pub numbers_once : Once Numbers-of.Post × Once record_of.Post
+pub numbers_once : Once numbers_of.Post × Once record_of.Post
 numbers_once = (λ κs a x y s t. same, λ κs a x y s t. same)

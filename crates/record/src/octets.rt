@@ -95,6 +95,7 @@ pub(crate) fn value_at(s: &[u8], at: usize, width: Width) -> u32
 }
 
 // Writes one octet at an index.
+#[tactic(auto, using(crate::proofs::OctetLaws::placed_past))]
 pub(crate) fn put_u8(out: &mut [u8], at: usize, x: u8)
     ensures { out.new ≡ placed out.old at (spelled 1 x) }
 {

@@ -12,8 +12,8 @@ use Rattle.service.specs.declared.collector.Opening.{Opening}
 use Rattle.service.specs.declared.collector.Opening.TheVariants as openings
 use Rattle.service.specs.Collector.{Said, meant, meant_opening}
 use Rattle.service.proofs.Said.{tag, same_waiting, same_record, same_dropped, same_number, same_refused}
-use Rattle.service.proofs.collector.open.Reads as open-reads
-use Rattle.service.proofs.collector.collect.Reads as collect-reads
+use Rattle.service.proofs.collector.open.Reads as open_reads
+use Rattle.service.proofs.collector.collect.Reads as collect_reads
 
 -- ---- an answer is determined by its meaning
 
@@ -32,7 +32,7 @@ collected_meant (answers.Refused m d) (answers.Record s e) h = absurd (omega (ar
 collected_meant (answers.Refused m d) (answers.Refused n e) h =
     ap₂ answers.Refused (number_once m n (same_number (number_of m) (number_of n) d e h)) (same_refused (number_of m) (number_of n) d e h)
 
-pub collect_once : Once collect-reads.Post
+pub collect_once : Once collect_reads.Post
 collect_once κs a x y s t p q =
     let e : x.answer ≡ y.answer = collected_meant x.answer y.answer (p.0 ∙ sym q.0) in
     let n : x.next ≡ y.next = p.1 ∙ sym q.1 in λ i. record { answer = e i; next = n i }
@@ -44,7 +44,7 @@ opening_meant openings.Opened (openings.Refused n) c d e = absurd (never c (numb
 opening_meant (openings.Refused m) openings.Opened c d e = absurd (never d (number_of m) (sym e))
 opening_meant (openings.Refused m) (openings.Refused n) c d e = ap openings.Refused (number_once m n (number_same (number_of m) (number_of n) e))
 
-pub open_once : Once open-reads.Post
+pub open_once : Once open_reads.Post
 open_once κs a x y s t p q =
     let e : x.answer ≡ y.answer = opening_meant x.answer y.answer x.collection y.collection (p.0 ∙ sym q.0) in
     let n : x.collection ≡ y.collection = p.1 ∙ sym q.1 in λ i. record { answer = e i; collection = n i }

@@ -11,7 +11,7 @@ use Rattle.service.specs.declared.control.Outcome.{Outcome}
 use Rattle.service.specs.declared.control.Outcome.TheVariants.{Done, Refused}
 use Rattle.service.specs.declared.control.Reply.{Reply}
 use Rattle.service.specs.Control.Replies.{Sent, meant_outcome, Says}
-use Rattle.service.proofs.control.Console.open.Reads as open-reads
+use Rattle.service.proofs.control.Console.open.Reads as open_reads
 use Rattle.service.proofs.control.Console.connect.Reads as connect
 use Rattle.service.proofs.control.Console.disconnect.Reads as disconnect
 use Rattle.service.proofs.control.Console.indicate.Reads as indicate
@@ -43,7 +43,7 @@ reply_once x y z p q =
       console = (same p.means q.means i).1;
     }
 
-pub calls_once : Once open-reads.Post × Once connect.Post × Once disconnect.Post × Once indicate.Post × Once confirm.Post × Once write.Post × Once flywheel.Post
+pub calls_once : Once open_reads.Post × Once connect.Post × Once disconnect.Post × Once indicate.Post × Once confirm.Post × Once write.Post × Once flywheel.Post
 calls_once = (
   λ κs a x y s t. reply_once x y _,
   λ κs a x y s t. reply_once x y _,

@@ -258,6 +258,7 @@ impl Console {
     }
 
     // A client writes an op code and its parameter; refusals 10, 17, 18, 19, 20. The response awaits confirmation; success may give status octets.
+    #[tactic(auto, unfolding(crate::specs::Control::Calls::writes))]
     pub fn write(self, client: u8, octets: &[u8]) -> Reply
         ensures { Says result (writes self client octets.now) }
     {

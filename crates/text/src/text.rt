@@ -39,6 +39,7 @@ fn digit(n: u32) -> u8
 }
 
 // A number in decimal, with no leading zeros.
+#[tactic(auto, using(crate::proofs::Writing::one_digit))]
 pub fn put_decimal(out: &mut [u8], at: usize, n: u32) -> usize
     ensures { Wrote out.old at (decimal n) out.new result }
 {

@@ -23,12 +23,12 @@ use Rattle.service.specs.Control.Console.{is_connected, is_indicating}
 use Rattle.service.specs.Control.Replies.{Sent, refusal_of, accepts, meant}
 use Rattle.service.specs.Control.Calls.{Opening, opening, opened, open_reply}
 use Rattle.service.proofs.control.Console.open.Reads as open_code
-use Rattle.service.proofs.control.Console.connect.Reads as connect-code
-use Rattle.service.proofs.control.Console.disconnect.Reads as disconnect-code
-use Rattle.service.proofs.control.Console.indicate.Reads as indicate-code
-use Rattle.service.proofs.control.Console.confirm.Reads as confirm-code
-use Rattle.service.proofs.control.Console.write.Reads as write-code
-use Rattle.service.proofs.control.Console.flywheel.Reads as flywheel-code
+use Rattle.service.proofs.control.Console.connect.Reads as connect_code
+use Rattle.service.proofs.control.Console.disconnect.Reads as disconnect_code
+use Rattle.service.proofs.control.Console.indicate.Reads as indicate_code
+use Rattle.service.proofs.control.Console.confirm.Reads as confirm_code
+use Rattle.service.proofs.control.Console.write.Reads as write_code
+use Rattle.service.proofs.control.Console.flywheel.Reads as flywheel_code
 use Rattle.demands.specs.Control.Point.{Call, connect, disconnect, confirm, indicate, write, flywheel, Point, service, Event, event, step, run, Answers}
 use Rattle.demands.specs.Control.Laws.{Sound, stores, by, result_in, holder_by, setting_by, Heard, Unchanged, ByAnother, Spared}
 use Rattle.demands.specs.Control.History.{mode_by, awaited_by, connected_by, indicating_by}
@@ -62,14 +62,14 @@ pub data DidOpen : Opening → Answer Console → Type 0 where
 
 -- what the code may answer to a call, by its contract, and the console that it leaves
 pub data Did (k : Console) : Call → Answer Sent × Console → Type 0 where
-  did_connect : (c : ℕ) (y : Reply) (e : Console × (ℕ × Unit {0})) → connect-code.Post tt (k, (c, tt)) y e → Did k (connect c) (meant y)
-  did_disconnect : (c : ℕ) (y : Reply) (e : Console × (ℕ × Unit {0})) → disconnect-code.Post tt (k, (c, tt)) y e → Did k (disconnect c) (meant y)
-  did_confirm : (c : ℕ) (y : Reply) (e : Console × (ℕ × Unit {0})) → confirm-code.Post tt (k, (c, tt)) y e → Did k (confirm c) (meant y)
+  did_connect : (c : ℕ) (y : Reply) (e : Console × (ℕ × Unit {0})) → connect_code.Post tt (k, (c, tt)) y e → Did k (connect c) (meant y)
+  did_disconnect : (c : ℕ) (y : Reply) (e : Console × (ℕ × Unit {0})) → disconnect_code.Post tt (k, (c, tt)) y e → Did k (disconnect c) (meant y)
+  did_confirm : (c : ℕ) (y : Reply) (e : Console × (ℕ × Unit {0})) → confirm_code.Post tt (k, (c, tt)) y e → Did k (confirm c) (meant y)
   did_indicate : (c : ℕ) (on : Bool) (y : Reply) (e : Console × (ℕ × (Bool × Unit {0}))) →
-      indicate-code.Post tt (k, (c, (on, tt))) y e → Did k (indicate c on) (meant y)
+      indicate_code.Post tt (k, (c, (on, tt))) y e → Did k (indicate c on) (meant y)
   did_write : (κ : Lft) (c : ℕ) (s : Bor (List ℕ)) (y : Reply) (e : Console × (ℕ × (Bor (List ℕ) × Unit {0}))) →
-      write-code.Post (κ, tt) (k, (c, (s, tt))) y e → Did k (write c s.now) (meant y)
-  did_flywheel : (v : ℕ) (y : Reply) (e : Console × (ℕ × Unit {0})) → flywheel-code.Post tt (k, (v, tt)) y e → Did k (flywheel v) (meant y)
+      write_code.Post (κ, tt) (k, (c, (s, tt))) y e → Did k (write c s.now) (meant y)
+  did_flywheel : (v : ℕ) (y : Reply) (e : Console × (ℕ × Unit {0})) → flywheel_code.Post tt (k, (v, tt)) y e → Did k (flywheel v) (meant y)
 
 pub console_again : (a : Answer Console) → console_of (open_reply a) ≡ a
 console_again (refused n) = refl

@@ -1,5 +1,6 @@
 // The parameters of the op codes: how many numbers each has, how wide they are, and how many octets they take.
-ghost use Rattle.std.specs.Prelude.{◌≡◌, cond, ltb, length as ListN·length, get_or};
+ghost use Rattle.std.specs.Prelude.{◌≡◌, cond, ltb, get_or};
+ghost use Rattle.std.specs.Prelude;
 ghost use Rattle.record.specs.declared.layout.Width.TheVariants.{U8};
 ghost use Rattle.service.specs.Control.Parameters.{widths, size};
 
@@ -43,7 +44,7 @@ impl Parameter {
 
     // How many numbers a parameter has.
     pub fn count(self) -> u8
-        ensures { result ≡ ListN·length (widths self) }
+        ensures { result ≡ Prelude.length (widths self) }
     {
         match self {
             Parameter::Empty => 0,

@@ -5,8 +5,5 @@ use Rattle.record.proofs.OctetLaws.{placed_one, placed_past}
 use Rattle.record.specs.Octets.{spelled}
 use Rattle.record.proofs.octets.put_u8.Goals as goal
 
-pub returns-then-out-at : goal.returns-then-out-at
-returns-then-out-at c = sym (placed_past (spelled 1 _) _ c.if-out-at.true)
-
 pub returns : goal.returns
 returns c = placed_one _ _ _ (search rules)

@@ -3,8 +3,5 @@ use native.Mathlib.Omega.{arith}
 use Rattle.text.proofs.Writing.{then, one_digit, more_digits}
 use Rattle.text.proofs.text.+put_decimal.Goals as goal
 
-pub returns-then-n-lt10 : goal.returns-then-n-lt10
-returns-then-n-lt10 t c = rw (one_digit c.args.n (omega arith), ← c.digit.ensures) c.put_byte.ensures
-
 pub returns : goal.returns
 returns t c = rw (more_digits c.args.n (omega arith), ← c.digit-2.ensures) (then c.put_decimal-next.ensures c.put_byte-2.ensures)

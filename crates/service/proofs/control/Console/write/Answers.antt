@@ -15,8 +15,5 @@ returns-then-octets-eq0 c = rw (writes_18 c.args.self c.args.client c.args.octet
 pub returns-then-not-was-2 : goal.returns-then-not-was-2
 returns-then-not-was-2 c = rw (writes_19 c.args.self c.args.client c.args.octets.now (c.if-client-gt3.false) ((rw c.client_at-was.ensures at c.if-not-was.false)) (c.if-octets-eq0.false) (rw c.client_at-was.ensures at c.if-not-was-2.true)) c.refused-then-not-was-2.ensures
 
-pub returns-then-is_someone : goal.returns-then-is_someone
-returns-then-is_someone c = rw (writes_20 c.args.self c.args.client c.args.octets.now (c.if-client-gt3.false) ((rw c.client_at-was.ensures at c.if-not-was.false)) (c.if-octets-eq0.false) ((rw c.client_at-was.ensures at c.if-not-was-2.false)) (search rules)) c.refused-then-is_someone.ensures
-
 pub returns : goal.returns
 returns c = rw (writes_so c.args.self c.args.client c.args.octets.now (c.if-client-gt3.false) ((rw c.client_at-was.ensures at c.if-not-was.false)) (c.if-octets-eq0.false) ((rw c.client_at-was.ensures at c.if-not-was-2.false)) ((search rules)), ← (rest_of c.args.octets.now)) c.answer.ensures
