@@ -3,6 +3,7 @@ pub mod Arms
 pub mod Sets
 pub mod Rows
 pub mod Tables
+pub mod Lengths
 pub mod OctetLaws
 pub mod RefusalLaws
 pub mod FeatureLaws

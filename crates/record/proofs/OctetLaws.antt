@@ -1,21 +1,18 @@
 -- Laws of octets, for any number of them: reading and writing one octet more; reading and writing are inverse; so are `signed` and `unsigned`.
 use Prim.Native.Nat.{ℕ, zero, suc, ◌+◌, ◌*◌, ◌-◌, ◌/◌, ◌%◌, ◌^◌, ◌≤◌, ◌<◌}
-use mathlib.Core.Path.{◌≡◌, refl, ap, ◌∙◌}
-use mathlib.Core.Bool.{true, false, true≢false}
+use mathlib.Core.Path.{◌≡◌, refl, sym, ap, ◌∙◌}
 use mathlib.Core.List.{List, [], ◌∷◌, ◌++◌, map, append-nil}
-use native.Mathlib.Nat.{pow-suc, one-le-pow, add-zero, zero-add, zero-lt-suc}
+use native.Mathlib.Nat.{pow-suc, one-le-pow, pow-le-pow_right, le_trans, add-zero, zero-add, zero-lt-suc}
 use native.Mathlib.Numerals.{add-one}
 use native.Mathlib.Omega.{arith}
 use lib.Arith.{mod-mul}
-use lib.Dec.{T, lit<}
-use lib.IntN.{ℤ, pos, negsuc, nat_abs, ◌-ℤ◌}
+use lib.Dec.{lit<}
+use lib.IntN.{ℤ, pos, negsuc}
 use lib.ListN.{length, take, drop, get_or, set, length-append, drop_of_length-le}
 use lib.Seq.{set_out, sets-eq, get_or-drop, drop-length}
-use lib.Signed.{lt_z, non_neg}
 use mir.Syntax.{w8, w16}
 use mir.Val.{Fits, SFits}
-use mir.Facts.{to_z-of_z, of_z-to_z, to_z_pos, to_z-neg}
-use borrow.Author.Tests.{le-ltb, ltb-true}
+use mir.Facts.{to_z-of_z, of_z-to_z}
 use Rattle.record.specs.Octets.{number, spelled, placed, over, signed, unsigned}
 
 number_nil : (n : ℕ) → number n [] ≡ 0
@@ -99,16 +96,32 @@ placed_append out at [] b = rw (add-zero at)
 placed_append out at (x ∷ a) b =
     let e : at + suc (length a) ≡ suc at + length a = omega arith in rw e (placed_append (set out at x) (suc at) a b)
 
--- writing one octet
-pub placed_one : (x : ℕ) (out : List ℕ) (at : ℕ) → x < 256 → set out at x ≡ placed out at (spelled 1 x)
-unfolding spelled
-placed_one x out at h = let e : x % 256 ≡ x = omega arith in rw e
+-- reading no octet, and one octet more
+pub number_none : (s : List ℕ) → number 0 s ≡ 0
+unfolding number
+number_none s = refl
 
--- writing one octet more: the low one, then the rest after it
-pub placed_step : (n x : ℕ) (out : List ℕ) (at : ℕ) {mid all : List ℕ} → mid ≡ placed out at (spelled 1 (x % 256)) →
-    all ≡ placed mid (at + 1) (spelled n (x / 256)) → all ≡ placed out at (spelled (suc n) x)
+pub number_more : (n at : ℕ) (s : List ℕ) → (n ≡ 0 → ⊥) → get_or s at 0 + 256 * number (n - 1) (drop (at + 1) s) ≡ number n (drop at s)
+number_more zero at s h = absurd (h refl)
+number_more (suc n) at s h =
+    let e : suc n - 1 ≡ n = omega arith in rw (e, ← number_one at s) (sym (number_step n at s))
+
+-- up to three octets spell less than 256 ^ 3
+pub three_below : (n at : ℕ) (s : List ℕ) → n ≤ 4 → ((i : ℕ) → Fits w8 (get_or s i 0)) → number (n - 1) (drop at s) < 256 ^ 3
+three_below n at s l h =
+    let p : number (n - 1) (drop at s) < 256 ^ (n - 1) = octets_below (n - 1) at s h in
+    let q : 256 ^ (n - 1) ≤ 256 ^ 3 = pow-le-pow_right {n = 256} (lit< tt) {i = n - 1} {j = 3} (omega arith) in
+    le_trans p q
+
+-- writing no octet, and one octet more: the low one, then the rest after it
+pub placed_none : (x : ℕ) (out : List ℕ) (at : ℕ) → out ≡ placed out at (spelled 0 x)
 unfolding spelled
-placed_step n x out at p q = let e : x % 256 % 256 ≡ x % 256 = omega arith in rw (q, p, add-one at, e)
+placed_none x out at = refl
+
+pub placed_more : (n x : ℕ) (out : List ℕ) (at : ℕ) → (n ≡ 0 → ⊥) → placed (set out at (x % 256)) (at + 1) (spelled (n - 1) (x / 256)) ≡ placed out at (spelled n x)
+unfolding spelled
+placed_more zero x out at h = absurd (h refl)
+placed_more (suc n) x out at h = let e : suc n - 1 ≡ n = omega arith in rw (e, add-one at)
 
 -- nothing is written past the end
 pub placed_past : (octets out : List ℕ) {at : ℕ} → length out ≤ at → placed out at octets ≡ out
@@ -140,39 +153,3 @@ ends = negsuc 32767 ∷ negsuc 0 ∷ pos 0 ∷ pos 32767 ∷ []
 -- "exact at both ends": -32,768, -1, 0 and 32,767, both ways
 pub both_ends : (map unsigned ends ≡ 32768 ∷ 65535 ∷ 0 ∷ 32767 ∷ []) × (map signed (32768 ∷ 65535 ∷ 0 ∷ 32767 ∷ []) ≡ ends)
 both_ends = (refl, refl)
-
-minus_one : (k : ℕ) → negsuc 0 -ℤ pos k ≡ negsuc k
-minus_one zero = refl
-minus_one (suc k) = let e : 0 + k ≡ k = omega arith in rw e
-
-minus_one_less : (k : ℕ) → negsuc 0 -ℤ negsuc k ≡ pos k
-minus_one_less k =
-    let h : 1 ≤ suc k = omega arith in
-    let e : suc k - 1 ≡ k = omega arith in
-    rw (le-ltb (suc k) 1 h, e)
-
--- for bits n of 32,768 or more: -1 - (65,535 - n) fits, and is the number that they mean
-pub below : (n : ℕ) → 32768 ≤ n → n < 65536 → SFits w16 (negsuc 0 -ℤ signed (65535 - n)) × (negsuc 0 -ℤ signed (65535 - n) ≡ signed n)
-below n h k =
-    let m : ℕ = 65535 - n in
-    let e : 65536 - suc n ≡ m = omega arith in
-    rw (to_z_pos w16 {n = m} (omega arith), minus_one m, le-ltb n 32768 h, e) (record { sfits = omega arith }, refl)
-
--- what the code needs of a number that is not negative
-pub plain : (z : ℤ) → SFits w16 z → lt_z (signed (unsigned z)) (pos 0) ≡ false →
-    (T (non_neg (signed (unsigned z))) × Fits w16 (nat_abs (signed (unsigned z)))) × (nat_abs (signed (unsigned z)) ≡ unsigned z)
-plain (pos n) f t = rw (to_z_pos w16 {n = n} f.sfits) ((tt, record { fits = omega (arith, f.sfits) }), refl)
-plain (negsuc n) f t = absurd (true≢false (rw (to_z-neg w16 n f.sfits) at t))
-
--- what the code needs of d = -1 - z for a negative z: it fits, it is not negative, and 65,535 - d is the bits of z
-abbrev Turned : ℤ → ℤ → Type 0
-Turned z d =
-    SFits w16 d × ((T (non_neg (signed (unsigned d))) × Fits w16 (nat_abs (signed (unsigned d)))) ×
-    ((nat_abs (signed (unsigned d)) ≤ 65535) × (65535 - nat_abs (signed (unsigned d)) ≡ unsigned z)))
-
-pub turned : (z : ℤ) → SFits w16 z → lt_z (signed (unsigned z)) (pos 0) ≡ true → Turned z (negsuc 0 -ℤ signed (unsigned z))
-turned (pos n) f t = absurd (omega (arith, ltb-true n 0 (rw (to_z_pos w16 {n = n} f.sfits) at t)))
-turned (negsuc n) f t =
-    let h : n < 32768 = f.sfits in
-    rw (to_z-neg w16 n h, minus_one_less n, to_z_pos w16 {n = n} h)
-    (record { sfits = h }, ((tt, record { fits = omega arith }), (omega arith, omega arith)))

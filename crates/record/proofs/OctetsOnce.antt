@@ -1,8 +1,4 @@
 -- No second reply meets the contracts of numbers in octets, of the Feature value and of the refusal numbers.
-use mathlib.Core.Path.{◌≡◌, refl}
-use Rattle.record.specs.declared.feature.FeatureAnswer.{FeatureAnswer}
-use Rattle.record.specs.declared.feature.FeatureAnswer.TheVariants as feature_answers
-use Rattle.record.specs.Feature as Feature
 use Rattle.record.proofs.feature.Feature.from_octets.Reads as feature_from_octets
 use Rattle.record.proofs.feature.Feature.to_octets.Reads as feature_to_octets
 use Rattle.record.proofs.feature.Feature.has_feature.Reads as feature_has_feature
@@ -15,15 +11,7 @@ use Rattle.record.proofs.octets.u24_at.Reads as octets_u24_at
 use Rattle.record.proofs.octets.s16_at.Reads as octets_s16_at
 use Rattle.record.proofs.octets.unsigned.Reads as octets_unsigned
 use Rattle.record.proofs.refusal.Refusal.number.Reads as refusal_number
-use Rattle.record.proofs.Once.{Once, same, Variant, with_value, with_refusal, by_meaning}
-
--- an answer is determined by its meaning
-feature_variant : (x : FeatureAnswer) → Variant feature_answers.Feature feature_answers.Refused x
-feature_variant (feature_answers.Feature a) = with_value a refl
-feature_variant (feature_answers.Refused r) = with_refusal r refl
-
-feature_meant : (x y : FeatureAnswer) → Feature.meant x ≡ Feature.meant y → x ≡ y
-feature_meant = by_meaning feature_answers.Feature feature_answers.Refused Feature.meant feature_variant (λ a. refl) (λ r. refl)
+use Rattle.record.proofs.Once.{Once, same, meant_once}
 
 -- ---- each public function
 
@@ -49,4 +37,4 @@ feature_once =
     (λ κs a x y s t. same, λ κs a x y s t. same, λ κs a x y s t. same, λ κs a x y s t. same, λ κs a x y s t. same)
 
 pub from_octets_once : Once feature_from_octets.Post
-from_octets_once κs a x y s t p q = feature_meant x y (same p q)
+from_octets_once κs a x y s t p q = meant_once x y (same p q)

@@ -10,14 +10,15 @@ use lib.Bits.{bit_and, bit_or, and_le_r, and_block, and_zero_r, or_shifted}
 use lib.Pow.{high}
 use lib.ListN.{length, drop, length-append}
 use lib.Seq.{drop_at}
-use borrow.Author.Tests.{le-leb}
+use borrow.Author.Tests.{le-leb, lt-leb, lt-ltb, le-ltb}
 use Rattle.record.specs.Layout.{layout}
 use Rattle.record.specs.Groups.{named, groups_of, known, listed, flags_octets, set_length, optional, turned}
 use Rattle.record.specs.Octets.{spelled}
-use Rattle.record.specs.Answer.{given}
+use Rattle.record.specs.declared.split.Extent.{Extent}
+use Rattle.record.specs.Answer.{Answer, refused, given}
 use Rattle.record.specs.Record.{Formed, kept}
 use Rattle.record.specs.Notification.{flags_of, names, heading, part_of, read_into, values, joined}
-use Rattle.record.specs.Split.{written, flags, octets}
+use Rattle.record.specs.Split.{written, flags, octets, sets_of, set_at, extent_of}
 use Rattle.record.proofs.OctetLaws.{length_spelled, number_spelled}
 use Rattle.record.proofs.Sets.{Sub, sub_of_and, sub_or, sub_or_l, sub_or_r, sub_same, sub_trans, and_of_sub, lowest_and, digit_lt}
 use Rattle.record.proofs.Tests.{passed, failed, tested, eqb_eq, eqb_ne}
@@ -64,6 +65,27 @@ pub octets_length : (kind s direction : ℕ) (v : List ℕ) → length (octets k
 octets_length kind s direction v =
     length-append (spelled (flags_octets kind) (flags s direction)) (written (named s (layout kind)) v)
     ∙ ap₂ ◌+◌ (length_spelled (flags_octets kind) (flags s direction)) (length_written (named s (layout kind)) v)
+
+-- the two tests of a part: is there such a part, and is the lent buffer long enough
+module _ (kind groups direction : ℕ) (v : List ℕ) (payload i lent : ℕ) where
+  abbrev extent : Answer Extent
+  extent = extent_of kind groups direction v payload i lent
+
+  abbrev octets_needed : ℕ
+  octets_needed = flags_octets kind + set_length kind (set_at kind groups payload i)
+
+  pub no_part : length (sets_of kind groups payload) ≤ i → extent ≡ refused 15
+  unfolding extent_of
+  no_part h = rw (le-ltb i (length (sets_of kind groups payload)) h)
+
+  module _ (h : i < length (sets_of kind groups payload)) where
+    pub too_short : lent < octets_needed → extent ≡ refused 14
+    unfolding extent_of
+    too_short l = rw (octets_length kind (set_at kind groups payload i) direction v, lt-ltb i (length (sets_of kind groups payload)) h, lt-leb octets_needed lent l)
+
+    pub whole_part : octets_needed ≤ lent → extent ≡ given (record { length = octets_needed; parts = length (sets_of kind groups payload) })
+    unfolding extent_of
+    whole_part l = rw (octets_length kind (set_at kind groups payload i) direction v, lt-ltb i (length (sets_of kind groups payload)) h, le-leb octets_needed lent l)
 
 turned_parity : (s : ℕ) → turned s % 2 ≡ 1 - s % 2
 turned_parity s = elim (tested (eqb (s % 2) 0)) [

@@ -4,9 +4,11 @@ use mathlib.Core.Path.{◌≡◌, refl, sym, ap, ◌∙◌}
 use mathlib.Core.Bool.{Bool, true, false, cond, ◌&&◌, and-true}
 use mathlib.Core.List.{List, [], ◌∷◌}
 use native.Mathlib.Numerals.{add-one}
+use lib.Bits.{bit_and}
 use lib.Dec.{eqb, leb}
 use lib.ListN.{length, get_or, drop, drop_of_length-le}
 use lib.Seq.{drop-cons}
+use Rattle.std.specs.List.{list_all}
 use Rattle.record.specs.declared.layout.Row.{Row}
 use Rattle.record.specs.Layout.{layout, no_row}
 use Rattle.record.specs.Groups.{has, named, listed, known, within}
@@ -38,11 +40,7 @@ module _ (set : ℕ) (rows : List Row) (i : ℕ) (r : Row) (e : r ≡ get_or row
       go true = refl
       go false = refl
 
-pub zero_turn : (v : List ℕ) (i : ℕ) {x t : Bool} → i < length v → eqb (get_or v i 0) 0 ≡ x → all_zero (drop i v) ≡ t → (x && all_zero (drop (i + 1) v)) ≡ t
-unfolding all_zero
-zero_turn v i h p q = rw (← p, add-one) (sym (ap all_zero (drop-cons v i 0 h)) ∙ q)
-
--- no row and no number is left at the end
+-- no row is left at the end
 module _ (set : ℕ) (rows : List Row) (i : ℕ) (h : length rows ≤ i) (v : List ℕ) where
   pub fit_end : all_fit (named set (drop i rows)) v ≡ true
   unfolding all_fit named
@@ -52,9 +50,11 @@ module _ (set : ℕ) (rows : List Row) (i : ℕ) (h : length rows ≤ i) (v : Li
   unfolding others named
   others_end = rw (drop_of_length-le rows h)
 
-pub zero_end : (v : List ℕ) (i : ℕ) → length v ≤ i → all_zero (drop i v) ≡ true
+-- that all numbers are 0, as a test of each
+pub zeros_by_test : (v : List ℕ) → list_all (λ x. eqb x 0) v ≡ all_zero v
 unfolding all_zero
-zero_end v i h = rw (drop_of_length-le v h)
+zeros_by_test [] = refl
+zeros_by_test (x ∷ v) = ap (λ (b : Bool). eqb x 0 && b) (zeros_by_test v)
 
 -- ---- the five tests of a record, as a program finds them
 
@@ -62,3 +62,10 @@ pub tests : (k g d : ℕ) (v : List ℕ) {a b e f z : Bool} → known k ≡ a �
     all_fit (named (1 + g) (layout k)) v ≡ f → all_zero (others (named (1 + g) (layout k)) v) ≡ z → formed k g d v ≡ (a && b && e && f && z)
 unfolding formed
 tests k g d v p q r s t = λ i. p i && q i && r i && s i && t i
+
+-- the second and the third test, by what a program found to compare with
+pub listed_test : (g k : ℕ) {l : ℕ} {b : Bool} → l ≡ listed k → eqb (bit_and g l) g ≡ b → within g (listed k) ≡ b
+listed_test g k {l} {b} p e = rw (← p) e
+
+pub way_test : (d k : ℕ) {l : ℕ} {b : Bool} → l ≡ cond (eqb k 2) 1 0 → leb d l ≡ b → leb d (cond (eqb k 2) 1 0) ≡ b
+way_test d k {l} {b} p e = rw (← p) e

@@ -1,10 +1,17 @@
 -- A call's answer, and what the call leaves in a lent buffer.
-use Rattle.std.specs.Prelude.{ℕ, Bool, cond}
+use Rattle.std.specs.Prelude.{ℕ, Bool, cond, Result, Ok, Err}
+use Rattle.record.specs.declared.refusal.Refusal.{Refusal}
+use Rattle.record.specs.Refusal.{number_of}
 
 -- an answer, or document 01's number of a refusal
 pub data Answer (A : Type 0) : Type 0 where
   refused : ℕ → Answer A
   given : A → Answer A
+
+-- what a call's result means in document 01: what it gives, or the refusal's number
+abbrev pub meant : {A : Type 0} → Result A Refusal → Answer A
+meant (Ok a) = given a
+meant (Err r) = refused (number_of r)
 
 -- "Where several apply": the answer if a test holds, and otherwise the refusal n
 abbrev pub provided : {A : Type 0} → Bool → ℕ → Answer A → Answer A

@@ -1,12 +1,9 @@
 -- "Feature value, 8 octets, two u32": features, then target settings.
 use Rattle.std.specs.Prelude.{ℕ, ◌%◌, ◌^◌, ◌≡◌, refl, Bool, true, false, cond, ◌&&◌, List, [], ◌∷◌, ◌++◌, map, eqb, leb, length, drop}
 use Rattle.record.specs.declared.feature.Feature.{Feature}
-use Rattle.record.specs.declared.feature.FeatureAnswer.{FeatureAnswer}
-use Rattle.record.specs.declared.feature.FeatureAnswer.TheVariants as answers
 use Rattle.record.specs.Groups.{has}
 use Rattle.record.specs.Octets.{number, spelled}
 use Rattle.record.specs.Answer.{Answer, refused, given}
-use Rattle.record.specs.Refusal.{number_of}
 
 -- "features 0 average speed, 1 cadence, 2 distance, 3 inclination, 4 elevation gain, 5 pace, 6 step count, 7 resistance, 8 stride count,
 -- 9 energy, 10 heart rate, 11 metabolic equivalent, 12 elapsed, 13 remaining, 14 power, 15 belt force and power output, 16 user data retention"
@@ -95,11 +92,6 @@ feature_of octets = cond (eqb (length octets) 8) (given (named (words octets))) 
 -- the octets of a Feature value
 abbrev pub feature_octets : Feature → List ℕ
 feature_octets f = spelled 4 (named_bits f.features) ++ spelled 4 (named_bits f.targets)
-
--- what the code's answer means in document 01: the Feature value, or the refusal's number
-abbrev pub meant : FeatureAnswer → Answer Feature
-meant (answers.Feature f) = given f
-meant (answers.Refused x) = refused (number_of x)
 
 -- both sentences name their bits in ascending order, none left out: 0 to 16
 pub in_order : (feature_bits ≡ 0 ∷ 1 ∷ 2 ∷ 3 ∷ 4 ∷ 5 ∷ 6 ∷ 7 ∷ 8 ∷ 9 ∷ 10 ∷ 11 ∷ 12 ∷ 13 ∷ 14 ∷ 15 ∷ 16 ∷ []) × (target_bits ≡ feature_bits)

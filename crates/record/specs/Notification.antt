@@ -3,18 +3,10 @@ use Rattle.std.specs.Prelude.{ℕ, ◌+◌, ◌/◌, ◌%◌, ◌^◌, cond, Lis
 use Rattle.std.specs.Int.Bits.{bit_and}
 use Rattle.record.specs.declared.layout.Row.{Row}
 use Rattle.record.specs.declared.notification.Part.{Part}
-use Rattle.record.specs.declared.notification.PartAnswer.{PartAnswer}
-use Rattle.record.specs.declared.notification.PartAnswer.TheVariants.{Part as Named, Refused}
 use Rattle.record.specs.Layout.{layout, octets_of}
 use Rattle.record.specs.Groups.{named, known, listed, flags_octets, set_length, optional, turned}
 use Rattle.record.specs.Octets.{number}
-use Rattle.record.specs.Answer.{Answer, refused, given, provided, after}
-use Rattle.record.specs.Refusal.{number_of}
-
--- what each case of the answer means: document 01's refusal number, or the part's groups, whether it is the last, and its direction
-abbrev pub meant : PartAnswer → Answer Part
-meant (Named p) = given p
-meant (Refused x) = refused (number_of x)
+use Rattle.record.specs.Answer.{Answer, given, provided, after}
 
 -- the flags of a notification
 abbrev pub flags_of : ℕ → List ℕ → ℕ

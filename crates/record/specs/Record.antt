@@ -5,6 +5,7 @@ use Rattle.std.specs.Int.{w16}
 use Rattle.std.proofs.Common.{SFits}
 use Rattle.record.specs.declared.layout.Row.{Row}
 use Rattle.record.specs.declared.record.Record.{Record}
+use Rattle.record.specs.declared.numbers.Wire.{Wire}
 use Rattle.record.specs.Layout as Layout
 use Rattle.record.specs.Layout.{layout, octets_of}
 use Rattle.record.specs.Groups.{named, listed, known, within}
@@ -20,6 +21,10 @@ wire r =
     unsigned r.force.belt ∷ unsigned r.force.power_output ∷ r.step_rates.rate ∷ r.step_rates.average ∷
     r.stride_count ∷ unsigned r.resistance ∷ unsigned r.power ∷ unsigned r.average_power ∷
     r.average_stroke_rate ∷ r.cadence ∷ r.average_cadence ∷ []
+
+-- a record with its wire numbers
+abbrev pub wired : Record → Wire
+wired r = record { kind = r.kind; groups = r.groups; direction = r.direction; numbers = wire r }
 
 -- the record with these wire numbers, each truncated to its field's type
 abbrev pub of_wire : ℕ → ℕ → ℕ → List ℕ → Record

@@ -3,19 +3,11 @@ use Rattle.std.specs.Prelude.{ℕ, zero, suc, ◌+◌, ◌*◌, ◌-◌, ◌%◌
 use Rattle.record.specs.declared.layout.Row.{Row}
 use Rattle.record.specs.declared.record.Record.{Record}
 use Rattle.record.specs.declared.split.Extent.{Extent}
-use Rattle.record.specs.declared.split.SplitAnswer.{SplitAnswer}
-use Rattle.record.specs.declared.split.SplitAnswer.TheVariants.{Part, Refused}
 use Rattle.record.specs.Layout.{layout, octets_of}
 use Rattle.record.specs.Groups.{named, known, flags_octets, set_length, turned}
 use Rattle.record.specs.Octets.{spelled, over}
 use Rattle.record.specs.Record.{wire, formed}
-use Rattle.record.specs.Answer.{Answer, refused, given, provided, after}
-use Rattle.record.specs.Refusal.{number_of}
-
--- what each case of the answer means: document 01's refusal number, or the part's length and the number of parts
-abbrev pub meant : SplitAnswer → Answer Extent
-meant (Part e) = given e
-meant (Refused x) = refused (number_of x)
+use Rattle.record.specs.Answer.{Answer, given, provided, after}
 
 -- "12: payload not 20 to 512"
 abbrev pub payload_known : ℕ → Bool

@@ -1,21 +1,15 @@
 // "Feature value, 8 octets, two u32": the features, then the target settings, with a constant for each named bit.
 ghost use Rattle.std.specs.Prelude.{◌≡◌};
-ghost use Rattle.record.specs.Feature.{meant, feature_of, feature_octets, has_named, feature_bits, target_bits};
+ghost use Rattle.record.specs.Answer.{meant};
+ghost use Rattle.record.specs.Feature.{feature_of, feature_octets, has_named, feature_bits, target_bits};
 
-use crate::octets::{put_u32, u32_at};
+use crate::octets::{number_at, put_number};
 use crate::refusal::Refusal;
 
-#[derive(Clone, Copy)]
+#[derive(Clone, Copy, PartialEq, Eq, Debug)]
 pub struct Feature {
     pub features: u32,
     pub targets: u32,
-}
-
-// What `from_octets` answers.
-#[derive(Clone, Copy)]
-pub enum FeatureAnswer {
-    Feature(Feature),
-    Refused(Refusal),
 }
 
 // Whether a bit of a word has a name and is set.
@@ -100,15 +94,15 @@ impl Feature {
     pub const TARGET_CADENCE: u8 = 16;
 
     // Reads a Feature value; bits that have no name are cleared.
-    pub fn from_octets(octets: &[u8]) -> FeatureAnswer
+    pub fn from_octets(octets: &[u8]) -> Result<Feature, Refusal>
         ensures { meant result ≡ feature_of octets.now }
     {
         if octets.len() != 8 {
-            return FeatureAnswer::Refused(Refusal::NotEightOctets);
+            return Err(Refusal::NotEightOctets);
         }
-        let features = u32_at(octets, 0) % 131072;
-        let targets = u32_at(octets, 4) % 131072;
-        FeatureAnswer::Feature(Feature { features, targets })
+        let features = number_at(octets, 0, 4) % 131072;
+        let targets = number_at(octets, 4, 4) % 131072;
+        Ok(Feature { features, targets })
     }
 
     // The octets of a Feature value; bits that have no name are written 0.
@@ -116,8 +110,8 @@ impl Feature {
         ensures { result ≡ feature_octets self }
     {
         let mut out = [0u8; 8];
-        put_u32(&mut out, 0, self.features % 131072);
-        put_u32(&mut out, 4, self.targets % 131072);
+        put_number(&mut out, 0, 4, self.features % 131072);
+        put_number(&mut out, 4, 4, self.targets % 131072);
         out
     }
 

@@ -51,140 +51,33 @@ pub fn flags_length(kind: u8) -> usize
     2
 }
 
-fn treadmill_length(bit: u8) -> usize
-    ensures { result ≡ size (named (2 ^ bit) treadmill) }
-{
-    match bit {
-        0 => 2,
-        1 => 2,
-        2 => 3,
-        3 => 4,
-        4 => 4,
-        5 => 1,
-        6 => 1,
-        7 => 5,
-        8 => 1,
-        9 => 1,
-        10 => 2,
-        11 => 2,
-        12 => 4,
-        _ => 0,
-    }
-}
-
-fn cross_trainer_length(bit: u8) -> usize
-    ensures { result ≡ size (named (2 ^ bit) cross_trainer) }
-{
-    match bit {
-        0 => 2,
-        1 => 2,
-        2 => 3,
-        3 => 4,
-        4 => 2,
-        5 => 4,
-        6 => 4,
-        7 => 2,
-        8 => 2,
-        9 => 2,
-        10 => 5,
-        11 => 1,
-        12 => 1,
-        13 => 2,
-        14 => 2,
-        _ => 0,
-    }
-}
-
-fn step_climber_length(bit: u8) -> usize
-    ensures { result ≡ size (named (2 ^ bit) step_climber) }
-{
-    match bit {
-        0 => 4,
-        1 => 2,
-        2 => 2,
-        3 => 2,
-        4 => 5,
-        5 => 1,
-        6 => 1,
-        7 => 2,
-        8 => 2,
-        _ => 0,
-    }
-}
-
-fn stair_climber_length(bit: u8) -> usize
-    ensures { result ≡ size (named (2 ^ bit) stair_climber) }
-{
-    match bit {
-        0 => 2,
-        1 => 2,
-        2 => 2,
-        3 => 2,
-        4 => 2,
-        5 => 5,
-        6 => 1,
-        7 => 1,
-        8 => 2,
-        9 => 2,
-        _ => 0,
-    }
-}
-
-fn rower_length(bit: u8) -> usize
-    ensures { result ≡ size (named (2 ^ bit) rower) }
-{
-    match bit {
-        0 => 3,
-        1 => 1,
-        2 => 3,
-        3 => 2,
-        4 => 2,
-        5 => 2,
-        6 => 2,
-        7 => 2,
-        8 => 5,
-        9 => 1,
-        10 => 1,
-        11 => 2,
-        12 => 2,
-        _ => 0,
-    }
-}
-
-fn indoor_bike_length(bit: u8) -> usize
-    ensures { result ≡ size (named (2 ^ bit) indoor_bike) }
-{
-    match bit {
-        0 => 2,
-        1 => 2,
-        2 => 2,
-        3 => 2,
-        4 => 3,
-        5 => 2,
-        6 => 2,
-        7 => 2,
-        8 => 5,
-        9 => 1,
-        10 => 1,
-        11 => 2,
-        12 => 2,
-        _ => 0,
-    }
-}
+// The octets of each group of the kinds 1 to 6, by the group's bit from 0 on; 0 where a kind lists no such group.
+const LENGTHS: [[u8; 15]; 6] = [
+    // treadmill
+    [2, 2, 3, 4, 4, 1, 1, 5, 1, 1, 2, 2, 4, 0, 0],
+    // cross trainer
+    [2, 2, 3, 4, 2, 4, 4, 2, 2, 2, 5, 1, 1, 2, 2],
+    // step climber
+    [4, 2, 2, 2, 5, 1, 1, 2, 2, 0, 0, 0, 0, 0, 0],
+    // stair climber
+    [2, 2, 2, 2, 2, 5, 1, 1, 2, 2, 0, 0, 0, 0, 0],
+    // rower
+    [3, 1, 3, 2, 2, 2, 2, 2, 5, 1, 1, 2, 2, 0, 0],
+    // indoor bike
+    [2, 2, 2, 2, 3, 2, 2, 2, 5, 1, 1, 2, 2, 0, 0],
+];
 
 // The number of octets of the group that a bit names; 0 if the kind lists no such group.
 pub fn group_length(kind: u8, bit: u8) -> usize
     ensures { result ≡ group_length kind bit }
 {
-    match kind {
-        TREADMILL => treadmill_length(bit),
-        CROSS_TRAINER => cross_trainer_length(bit),
-        STEP_CLIMBER => step_climber_length(bit),
-        STAIR_CLIMBER => stair_climber_length(bit),
-        ROWER => rower_length(bit),
-        INDOOR_BIKE => indoor_bike_length(bit),
-        _ => 0,
+    if !is_known(kind) {
+        return 0;
     }
+    if BITS <= bit {
+        return 0;
+    }
+    LENGTHS[kind as usize - 1][bit as usize] as usize
 }
 
 // The number of octets that the groups of a set take.

@@ -81,7 +81,7 @@ pub const CADENCE: u8 = 29;
 pub const AVERAGE_CADENCE: u8 = 30;
 
 // "Widths: u8, u16, u24, s16".
-#[derive(Clone, Copy)]
+#[derive(Clone, Copy, PartialEq, Eq, Debug)]
 pub enum Width {
     U8,
     U16,
@@ -90,7 +90,7 @@ pub enum Width {
 }
 
 // A row of a kind's table: the bit that names the group, the field, and its width.
-#[derive(Clone, Copy)]
+#[derive(Clone, Copy, PartialEq, Eq, Debug)]
 pub struct Row(pub u8, pub u8, pub Width);
 
 const U8: Width = Width::U8;
@@ -104,146 +104,116 @@ const S16: Width = Width::S16;
 // The row that is returned past the last one, and for an unknown kind.
 const NO_ROW: Row = Row(0, SPEED, U8);
 
-fn treadmill_row(i: usize) -> Row
-    ensures { result ≡ get_or treadmill i no_row }
-{
-    match i {
-        0 => Row(0, SPEED, U16),
-        1 => Row(1, AVERAGE_SPEED, U16),
-        2 => Row(2, DISTANCE, U24),
-        3 => Row(3, INCLINATION, S16),
-        4 => Row(3, RAMP_ANGLE, S16),
-        5 => Row(4, POSITIVE_GAIN, U16),
-        6 => Row(4, NEGATIVE_GAIN, U16),
-        7 => Row(5, PACE, U8),
-        8 => Row(6, AVERAGE_PACE, U8),
-        9 => Row(7, TOTAL_ENERGY, U16),
-        10 => Row(7, ENERGY_PER_HOUR, U16),
-        11 => Row(7, ENERGY_PER_MINUTE, U8),
-        12 => Row(8, HEART_RATE, U8),
-        13 => Row(9, METABOLIC_EQUIVALENT, U8),
-        14 => Row(10, ELAPSED, U16),
-        15 => Row(11, REMAINING, U16),
-        16 => Row(12, BELT_FORCE, S16),
-        17 => Row(12, POWER_OUTPUT, S16),
-        _ => NO_ROW,
-    }
-}
+const TREADMILL_ROWS: [Row; 18] = [
+    Row(0, SPEED, U16),
+    Row(1, AVERAGE_SPEED, U16),
+    Row(2, DISTANCE, U24),
+    Row(3, INCLINATION, S16),
+    Row(3, RAMP_ANGLE, S16),
+    Row(4, POSITIVE_GAIN, U16),
+    Row(4, NEGATIVE_GAIN, U16),
+    Row(5, PACE, U8),
+    Row(6, AVERAGE_PACE, U8),
+    Row(7, TOTAL_ENERGY, U16),
+    Row(7, ENERGY_PER_HOUR, U16),
+    Row(7, ENERGY_PER_MINUTE, U8),
+    Row(8, HEART_RATE, U8),
+    Row(9, METABOLIC_EQUIVALENT, U8),
+    Row(10, ELAPSED, U16),
+    Row(11, REMAINING, U16),
+    Row(12, BELT_FORCE, S16),
+    Row(12, POWER_OUTPUT, S16),
+];
 
-fn cross_trainer_row(i: usize) -> Row
-    ensures { result ≡ get_or cross_trainer i no_row }
-{
-    match i {
-        0 => Row(0, SPEED, U16),
-        1 => Row(1, AVERAGE_SPEED, U16),
-        2 => Row(2, DISTANCE, U24),
-        3 => Row(3, STEP_RATE, U16),
-        4 => Row(3, AVERAGE_STEP_RATE, U16),
-        5 => Row(4, STRIDE_COUNT, U16),
-        6 => Row(5, POSITIVE_GAIN, U16),
-        7 => Row(5, NEGATIVE_GAIN, U16),
-        8 => Row(6, INCLINATION, S16),
-        9 => Row(6, RAMP_ANGLE, S16),
-        10 => Row(7, RESISTANCE, S16),
-        11 => Row(8, POWER, S16),
-        12 => Row(9, AVERAGE_POWER, S16),
-        13 => Row(10, TOTAL_ENERGY, U16),
-        14 => Row(10, ENERGY_PER_HOUR, U16),
-        15 => Row(10, ENERGY_PER_MINUTE, U8),
-        16 => Row(11, HEART_RATE, U8),
-        17 => Row(12, METABOLIC_EQUIVALENT, U8),
-        18 => Row(13, ELAPSED, U16),
-        19 => Row(14, REMAINING, U16),
-        _ => NO_ROW,
-    }
-}
+const CROSS_TRAINER_ROWS: [Row; 20] = [
+    Row(0, SPEED, U16),
+    Row(1, AVERAGE_SPEED, U16),
+    Row(2, DISTANCE, U24),
+    Row(3, STEP_RATE, U16),
+    Row(3, AVERAGE_STEP_RATE, U16),
+    Row(4, STRIDE_COUNT, U16),
+    Row(5, POSITIVE_GAIN, U16),
+    Row(5, NEGATIVE_GAIN, U16),
+    Row(6, INCLINATION, S16),
+    Row(6, RAMP_ANGLE, S16),
+    Row(7, RESISTANCE, S16),
+    Row(8, POWER, S16),
+    Row(9, AVERAGE_POWER, S16),
+    Row(10, TOTAL_ENERGY, U16),
+    Row(10, ENERGY_PER_HOUR, U16),
+    Row(10, ENERGY_PER_MINUTE, U8),
+    Row(11, HEART_RATE, U8),
+    Row(12, METABOLIC_EQUIVALENT, U8),
+    Row(13, ELAPSED, U16),
+    Row(14, REMAINING, U16),
+];
 
-fn step_climber_row(i: usize) -> Row
-    ensures { result ≡ get_or step_climber i no_row }
-{
-    match i {
-        0 => Row(0, FLOORS, U16),
-        1 => Row(0, STEPS, U16),
-        2 => Row(1, STEP_RATE, U16),
-        3 => Row(2, AVERAGE_STEP_RATE, U16),
-        4 => Row(3, POSITIVE_GAIN, U16),
-        5 => Row(4, TOTAL_ENERGY, U16),
-        6 => Row(4, ENERGY_PER_HOUR, U16),
-        7 => Row(4, ENERGY_PER_MINUTE, U8),
-        8 => Row(5, HEART_RATE, U8),
-        9 => Row(6, METABOLIC_EQUIVALENT, U8),
-        10 => Row(7, ELAPSED, U16),
-        11 => Row(8, REMAINING, U16),
-        _ => NO_ROW,
-    }
-}
+const STEP_CLIMBER_ROWS: [Row; 12] = [
+    Row(0, FLOORS, U16),
+    Row(0, STEPS, U16),
+    Row(1, STEP_RATE, U16),
+    Row(2, AVERAGE_STEP_RATE, U16),
+    Row(3, POSITIVE_GAIN, U16),
+    Row(4, TOTAL_ENERGY, U16),
+    Row(4, ENERGY_PER_HOUR, U16),
+    Row(4, ENERGY_PER_MINUTE, U8),
+    Row(5, HEART_RATE, U8),
+    Row(6, METABOLIC_EQUIVALENT, U8),
+    Row(7, ELAPSED, U16),
+    Row(8, REMAINING, U16),
+];
 
-fn stair_climber_row(i: usize) -> Row
-    ensures { result ≡ get_or stair_climber i no_row }
-{
-    match i {
-        0 => Row(0, FLOORS, U16),
-        1 => Row(1, STEP_RATE, U16),
-        2 => Row(2, AVERAGE_STEP_RATE, U16),
-        3 => Row(3, POSITIVE_GAIN, U16),
-        4 => Row(4, STRIDE_COUNT, U16),
-        5 => Row(5, TOTAL_ENERGY, U16),
-        6 => Row(5, ENERGY_PER_HOUR, U16),
-        7 => Row(5, ENERGY_PER_MINUTE, U8),
-        8 => Row(6, HEART_RATE, U8),
-        9 => Row(7, METABOLIC_EQUIVALENT, U8),
-        10 => Row(8, ELAPSED, U16),
-        11 => Row(9, REMAINING, U16),
-        _ => NO_ROW,
-    }
-}
+const STAIR_CLIMBER_ROWS: [Row; 12] = [
+    Row(0, FLOORS, U16),
+    Row(1, STEP_RATE, U16),
+    Row(2, AVERAGE_STEP_RATE, U16),
+    Row(3, POSITIVE_GAIN, U16),
+    Row(4, STRIDE_COUNT, U16),
+    Row(5, TOTAL_ENERGY, U16),
+    Row(5, ENERGY_PER_HOUR, U16),
+    Row(5, ENERGY_PER_MINUTE, U8),
+    Row(6, HEART_RATE, U8),
+    Row(7, METABOLIC_EQUIVALENT, U8),
+    Row(8, ELAPSED, U16),
+    Row(9, REMAINING, U16),
+];
 
-fn rower_row(i: usize) -> Row
-    ensures { result ≡ get_or rower i no_row }
-{
-    match i {
-        0 => Row(0, STROKE_RATE, U8),
-        1 => Row(0, STROKE_COUNT, U16),
-        2 => Row(1, AVERAGE_STROKE_RATE, U8),
-        3 => Row(2, DISTANCE, U24),
-        4 => Row(3, PACE, U16),
-        5 => Row(4, AVERAGE_PACE, U16),
-        6 => Row(5, POWER, S16),
-        7 => Row(6, AVERAGE_POWER, S16),
-        8 => Row(7, RESISTANCE, S16),
-        9 => Row(8, TOTAL_ENERGY, U16),
-        10 => Row(8, ENERGY_PER_HOUR, U16),
-        11 => Row(8, ENERGY_PER_MINUTE, U8),
-        12 => Row(9, HEART_RATE, U8),
-        13 => Row(10, METABOLIC_EQUIVALENT, U8),
-        14 => Row(11, ELAPSED, U16),
-        15 => Row(12, REMAINING, U16),
-        _ => NO_ROW,
-    }
-}
+const ROWER_ROWS: [Row; 16] = [
+    Row(0, STROKE_RATE, U8),
+    Row(0, STROKE_COUNT, U16),
+    Row(1, AVERAGE_STROKE_RATE, U8),
+    Row(2, DISTANCE, U24),
+    Row(3, PACE, U16),
+    Row(4, AVERAGE_PACE, U16),
+    Row(5, POWER, S16),
+    Row(6, AVERAGE_POWER, S16),
+    Row(7, RESISTANCE, S16),
+    Row(8, TOTAL_ENERGY, U16),
+    Row(8, ENERGY_PER_HOUR, U16),
+    Row(8, ENERGY_PER_MINUTE, U8),
+    Row(9, HEART_RATE, U8),
+    Row(10, METABOLIC_EQUIVALENT, U8),
+    Row(11, ELAPSED, U16),
+    Row(12, REMAINING, U16),
+];
 
-fn indoor_bike_row(i: usize) -> Row
-    ensures { result ≡ get_or indoor_bike i no_row }
-{
-    match i {
-        0 => Row(0, SPEED, U16),
-        1 => Row(1, AVERAGE_SPEED, U16),
-        2 => Row(2, CADENCE, U16),
-        3 => Row(3, AVERAGE_CADENCE, U16),
-        4 => Row(4, DISTANCE, U24),
-        5 => Row(5, RESISTANCE, S16),
-        6 => Row(6, POWER, S16),
-        7 => Row(7, AVERAGE_POWER, S16),
-        8 => Row(8, TOTAL_ENERGY, U16),
-        9 => Row(8, ENERGY_PER_HOUR, U16),
-        10 => Row(8, ENERGY_PER_MINUTE, U8),
-        11 => Row(9, HEART_RATE, U8),
-        12 => Row(10, METABOLIC_EQUIVALENT, U8),
-        13 => Row(11, ELAPSED, U16),
-        14 => Row(12, REMAINING, U16),
-        _ => NO_ROW,
-    }
-}
+const INDOOR_BIKE_ROWS: [Row; 15] = [
+    Row(0, SPEED, U16),
+    Row(1, AVERAGE_SPEED, U16),
+    Row(2, CADENCE, U16),
+    Row(3, AVERAGE_CADENCE, U16),
+    Row(4, DISTANCE, U24),
+    Row(5, RESISTANCE, S16),
+    Row(6, POWER, S16),
+    Row(7, AVERAGE_POWER, S16),
+    Row(8, TOTAL_ENERGY, U16),
+    Row(8, ENERGY_PER_HOUR, U16),
+    Row(8, ENERGY_PER_MINUTE, U8),
+    Row(9, HEART_RATE, U8),
+    Row(10, METABOLIC_EQUIVALENT, U8),
+    Row(11, ELAPSED, U16),
+    Row(12, REMAINING, U16),
+];
 
 // The number of octets that a width takes.
 pub fn width_length(width: Width) -> usize
@@ -257,32 +227,34 @@ pub fn width_length(width: Width) -> usize
     }
 }
 
+// The rows of a kind, in wire order; none for an unknown kind.
+pub fn rows(kind: u8) -> &'static [Row]
+    ensures { result.now ≡ Layout.layout kind }
+{
+    match kind {
+        TREADMILL => &TREADMILL_ROWS,
+        CROSS_TRAINER => &CROSS_TRAINER_ROWS,
+        STEP_CLIMBER => &STEP_CLIMBER_ROWS,
+        STAIR_CLIMBER => &STAIR_CLIMBER_ROWS,
+        ROWER => &ROWER_ROWS,
+        INDOOR_BIKE => &INDOOR_BIKE_ROWS,
+        _ => &[],
+    }
+}
+
 // The number of rows of a kind; 0 for an unknown kind.
 pub fn row_count(kind: u8) -> usize
     ensures { result ≡ length (Layout.layout kind) }
 {
-    match kind {
-        TREADMILL => 18,
-        CROSS_TRAINER => 20,
-        STEP_CLIMBER => 12,
-        STAIR_CLIMBER => 12,
-        ROWER => 16,
-        INDOOR_BIKE => 15,
-        _ => 0,
-    }
+    rows(kind).len()
 }
 
 // Row i of a kind, in wire order; past the last row, and for an unknown kind, a row that means nothing.
 pub fn row_of(kind: u8, i: usize) -> Row
     ensures { result ≡ get_or (Layout.layout kind) i no_row }
 {
-    match kind {
-        TREADMILL => treadmill_row(i),
-        CROSS_TRAINER => cross_trainer_row(i),
-        STEP_CLIMBER => step_climber_row(i),
-        STAIR_CLIMBER => stair_climber_row(i),
-        ROWER => rower_row(i),
-        INDOOR_BIKE => indoor_bike_row(i),
-        _ => NO_ROW,
+    match rows(kind).get(i) {
+        Some(row) => *row,
+        None => NO_ROW,
     }
 }

@@ -4,39 +4,31 @@ ghost use lib.ListN.{drop, set};
 ghost use Rattle.record.specs.Layout.{octets_of};
 ghost use Rattle.record.specs.Groups;
 ghost use Rattle.record.specs.Octets.{number};
-ghost use Rattle.record.specs.Notification.{meant, flags_of, part_of, values, held_after};
+ghost use Rattle.record.specs.Answer.{meant};
+ghost use Rattle.record.specs.Notification.{flags_of, part_of, values, held_after};
 ghost use Rattle.record.specs.Notification;
 
 use crate::groups::{flags_length, groups_length, has, is_known, listed};
-use crate::layout::{CROSS_TRAINER, Row, row_count, row_of, width_length};
-use crate::octets::{u16_at, u24_at, value_at};
+use crate::layout::{CROSS_TRAINER, Row, rows, width_length};
+use crate::octets::number_at;
 use crate::refusal::Refusal;
 
 // "30: notification above 512 octets".
 pub const LONGEST: usize = 512;
 
 // What the flags of a notification say: its optional groups, whether it is the last part of a record, and its direction.
-#[derive(Clone, Copy)]
+#[derive(Clone, Copy, PartialEq, Eq, Debug)]
 pub struct Part {
     pub groups: u32,
     pub last: bool,
     pub direction: u8,
 }
 
-#[derive(Clone, Copy)]
-pub enum PartAnswer {
-    Part(Part),
-    Refused(Refusal),
-}
-
 // The flags of a notification: its first octets.
 fn flags(kind: u8, notification: &[u8]) -> u32
     ensures { result ≡ flags_of kind notification.now }
 {
-    if kind == CROSS_TRAINER {
-        return u24_at(notification, 0);
-    }
-    u16_at(notification, 0) as u32
+    number_at(notification, 0, flags_length(kind))
 }
 
 // The groups that flags name: bit 0, inverted, stands for the main group; reserved bits are ignored.
@@ -61,26 +53,26 @@ fn heading(kind: u8, flags: u32) -> u8
 }
 
 // What the flags of a notification say, or the first of the refusals 11, 30, 31 and 32 that applies.
-pub fn part_of(kind: u8, notification: &[u8]) -> PartAnswer
+pub fn part_of(kind: u8, notification: &[u8]) -> Result<Part, Refusal>
     ensures { meant result ≡ part_of kind notification.now }
 {
     if !is_known(kind) {
-        return PartAnswer::Refused(Refusal::UnknownKind);
+        return Err(Refusal::UnknownKind);
     }
     if LONGEST < notification.len() {
-        return PartAnswer::Refused(Refusal::NotificationTooLong);
+        return Err(Refusal::NotificationTooLong);
     }
     let start = flags_length(kind);
     if notification.len() < start {
-        return PartAnswer::Refused(Refusal::ShorterThanFlags);
+        return Err(Refusal::ShorterThanFlags);
     }
     let word = flags(kind, notification);
     let set = names(kind, word);
     if notification.len() < start + groups_length(kind, set) {
-        return PartAnswer::Refused(Refusal::ShorterThanGroups);
+        return Err(Refusal::ShorterThanGroups);
     }
     let direction = heading(kind, word);
-    PartAnswer::Part(Part {
+    Ok(Part {
         groups: set - set % 2,
         last: word % 2 == 0,
         direction,
@@ -94,10 +86,9 @@ fn read_row(row: Row, set: u32, notification: &[u8], at: usize, numbers: &mut [u
     ensures numbers_after { numbers.new ≡ cond (Groups.has set row.0) (lib.ListN.set numbers.old row.1 (number (octets_of row.2) (drop at notification.now))) numbers.old }
 {
     if has(set, row.0) {
-        let width = row.2;
-        let field = row.1 as usize;
-        numbers[field] = value_at(notification, at, width);
-        return at + width_length(width);
+        let length = width_length(row.2);
+        numbers[row.1 as usize] = number_at(notification, at, length);
+        return at + length;
     }
     at
 }
@@ -106,25 +97,19 @@ fn read_row(row: Row, set: u32, notification: &[u8], at: usize, numbers: &mut [u
 fn read_rows(kind: u8, set: u32, notification: &[u8], numbers: &mut [u32; 31])
     ensures { numbers.new ≡ values kind set notification.now numbers.old }
 {
-    let count = row_count(kind);
     let mut at = flags_length(kind);
-    for i in 0..count {
-        let row = row_of(kind, i);
-        at = read_row(row, set, notification, at, numbers);
+    for row in rows(kind) {
+        at = read_row(*row, set, notification, at, numbers);
     }
 }
 
 // Reads a notification: returns what its flags say and joins its values to those held, which a refusal leaves unchanged.
-pub fn read(kind: u8, notification: &[u8], numbers: &mut [u32; 31]) -> PartAnswer
+pub fn read(kind: u8, notification: &[u8], numbers: &mut [u32; 31]) -> Result<Part, Refusal>
     ensures result_value { meant result ≡ part_of kind notification.now }
     ensures numbers_after { numbers.new ≡ held_after kind notification.now numbers.old }
 {
-    let answer = part_of(kind, notification);
-    if let PartAnswer::Part(_) = answer {
-        let word = flags(kind, notification);
-        let set = names(kind, word);
-        read_rows(kind, set, notification, numbers);
-        return answer;
-    }
-    answer
+    let part = part_of(kind, notification)?;
+    let set = names(kind, flags(kind, notification));
+    read_rows(kind, set, notification, numbers);
+    Ok(part)
 }

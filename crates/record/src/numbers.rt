@@ -1,7 +1,7 @@
 // Records as wire numbers, one unsigned number for each field, and back.
 ghost use Rattle.std.specs.Prelude.{◌≡◌, ◌%◌, ◌^◌, ◌<◌, get_or};
 ghost use Rattle.record.specs.Octets;
-ghost use Rattle.record.specs.Record.{wire, of_wire};
+ghost use Rattle.record.specs.Record.{wire, wired, of_wire};
 
 use crate::layout;
 use crate::octets::{signed, unsigned};
@@ -9,61 +9,52 @@ use crate::record::{
     Climb, Energy, Force, Gain, Inclination, RampAngle, Record, Slope, StepRates, Stroke,
 };
 
-// A field's value as a wire number: a u8, a u16, or the sixteen bits of an s16.
-fn short(x: u8) -> u32
-    ensures { result ≡ x }
-{
-    x as u32
+// A record as its kind, its optional groups, its direction and its wire numbers: one unsigned number for each field, in field
+// order; an s16 is given as its sixteen bits.
+#[derive(Clone, Copy, PartialEq, Eq, Debug)]
+pub struct Wire {
+    pub kind: u8,
+    pub groups: u32,
+    pub direction: u8,
+    pub numbers: [u32; 31],
 }
 
-fn wide(x: u16) -> u32
-    ensures { result ≡ x }
-{
-    x as u32
-}
-
-fn bits(z: i16) -> u32
-    ensures { result ≡ Octets.unsigned z }
-{
-    wide(unsigned(z))
-}
-
-// A record's wire numbers, in field order; an s16 is given as its sixteen bits.
+// A record's wire numbers.
 pub fn numbers_of(r: Record) -> [u32; 31]
     ensures { result ≡ wire r }
 {
     [
-        wide(r.speed),
-        wide(r.climb.floors),
-        wide(r.climb.steps),
-        short(r.stroke.rate),
-        wide(r.stroke.count),
-        wide(r.average_speed),
+        r.speed as u32,
+        r.climb.floors as u32,
+        r.climb.steps as u32,
+        r.stroke.rate as u32,
+        r.stroke.count as u32,
+        r.average_speed as u32,
         r.distance,
-        bits(r.slope.inclination.0),
-        bits(r.slope.ramp_angle.0),
-        wide(r.gain.positive),
-        wide(r.gain.negative),
-        wide(r.pace),
-        wide(r.average_pace),
-        wide(r.energy.total),
-        wide(r.energy.per_hour),
-        short(r.energy.per_minute),
-        short(r.heart_rate),
-        short(r.metabolic_equivalent),
-        wide(r.elapsed),
-        wide(r.remaining),
-        bits(r.force.belt),
-        bits(r.force.power_output),
-        wide(r.step_rates.rate),
-        wide(r.step_rates.average),
-        wide(r.stride_count),
-        bits(r.resistance),
-        bits(r.power),
-        bits(r.average_power),
-        short(r.average_stroke_rate),
-        wide(r.cadence),
-        wide(r.average_cadence),
+        unsigned(r.slope.inclination.0) as u32,
+        unsigned(r.slope.ramp_angle.0) as u32,
+        r.gain.positive as u32,
+        r.gain.negative as u32,
+        r.pace as u32,
+        r.average_pace as u32,
+        r.energy.total as u32,
+        r.energy.per_hour as u32,
+        r.energy.per_minute as u32,
+        r.heart_rate as u32,
+        r.metabolic_equivalent as u32,
+        r.elapsed as u32,
+        r.remaining as u32,
+        unsigned(r.force.belt) as u32,
+        unsigned(r.force.power_output) as u32,
+        r.step_rates.rate as u32,
+        r.step_rates.average as u32,
+        r.stride_count as u32,
+        unsigned(r.resistance) as u32,
+        unsigned(r.power) as u32,
+        unsigned(r.average_power) as u32,
+        r.average_stroke_rate as u32,
+        r.cadence as u32,
+        r.average_cadence as u32,
     ]
 }
 
@@ -163,14 +154,28 @@ fn step_rates_of(numbers: &[u32; 31]) -> StepRates
     }
 }
 
+impl From<Record> for Wire {
+    ghost from_gives = { λ r w. w ≡ wired r };
+
+    fn from(r: Record) -> Wire {
+        Wire {
+            kind: r.kind,
+            groups: r.groups,
+            direction: r.direction,
+            numbers: numbers_of(r),
+        }
+    }
+}
+
 // The record with these wire numbers, each truncated to its field's type.
-pub fn record_of(kind: u8, groups: u32, direction: u8, numbers: &[u32; 31]) -> Record
-    ensures { result ≡ of_wire kind groups direction numbers.now }
+pub fn record_of(wire: &Wire) -> Record
+    ensures { result ≡ of_wire wire.now.kind wire.now.groups wire.now.direction wire.now.numbers }
 {
+    let numbers = &wire.numbers;
     Record {
-        kind,
-        groups,
-        direction,
+        kind: wire.kind,
+        groups: wire.groups,
+        direction: wire.direction,
         speed: word_at(numbers, layout::SPEED),
         climb: climb_of(numbers),
         stroke: stroke_of(numbers),

@@ -4,15 +4,15 @@ ghost use Rattle.record.specs.Layout.{octets_of, layout};
 ghost use Rattle.record.specs.Groups.{named, flags_octets};
 ghost use Rattle.record.specs.Groups;
 ghost use Rattle.record.specs.Octets.{spelled, placed, over};
-ghost use Rattle.record.specs.Answer.{after};
-ghost use Rattle.record.specs.Split.{meant, payload_known, cut, written, flags, set_at, extent_of, split_wire, split_of, lent_after};
+ghost use Rattle.record.specs.Answer.{meant, after};
+ghost use Rattle.record.specs.Split.{payload_known, cut, written, flags, sets_of, set_at, extent_of, split_wire, split_of, lent_after};
 ghost use Rattle.record.specs.Split;
 
 use crate::formed::formed;
 use crate::groups::{BITS, flags_length, group_length, groups_length, has, is_known};
-use crate::layout::{CROSS_TRAINER, Row, row_count, row_of, width_length};
-use crate::numbers::numbers_of;
-use crate::octets::{put_u16, put_u24, put_value};
+use crate::layout::{Row, rows, width_length};
+use crate::numbers::Wire;
+use crate::octets::put_number;
 use crate::record::Record;
 use crate::refusal::Refusal;
 
@@ -32,16 +32,10 @@ pub fn is_payload(payload: usize) -> bool
 pub const MOST_PARTS: usize = 16;
 
 // A part's length in octets, and the number of parts of its record.
-#[derive(Clone, Copy)]
+#[derive(Clone, Copy, PartialEq, Eq, Debug)]
 pub struct Extent {
     pub length: usize,
     pub parts: usize,
-}
-
-#[derive(Clone, Copy)]
-pub enum SplitAnswer {
-    Part(Extent),
-    Refused(Refusal),
 }
 
 // The groups of one part (bit 0 stands for the main group), and the number of parts.
@@ -86,8 +80,7 @@ fn cut_at(kind: u8, groups: u32, room: usize, part: usize) -> Cut
 {
     let mut left = groups;
     let mut set: u32 = 0;
-    let mut parts: usize = 0;
-    while parts < MOST_PARTS {
+    for parts in 0..MOST_PARTS {
         if groups_length(kind, 1 + left) <= room {
             let last = chosen(parts, part, 1 + left, set);
             return Cut {
@@ -98,9 +91,21 @@ fn cut_at(kind: u8, groups: u32, room: usize, part: usize) -> Cut
         let next = run(kind, room, left);
         set = chosen(parts, part, next, set);
         left -= next;
-        parts += 1;
     }
-    Cut { set, parts }
+    Cut {
+        set,
+        parts: MOST_PARTS,
+    }
+}
+
+// The same at a payload.
+fn cut_part(wire: &Wire, payload: usize, part: usize) -> Cut
+    requires { (wire.now.groups < 32767) × (20 ≤ payload) }
+    ensures set_value { result.set ≡ set_at wire.now.kind wire.now.groups payload part }
+    ensures parts_value { result.parts ≡ length (sets_of wire.now.kind wire.now.groups payload) }
+{
+    let room = payload - flags_length(wire.kind);
+    cut_at(wire.kind, wire.groups, room, part)
 }
 
 // Writes a row's number at an index, if the set names its group; returns the index after it.
@@ -110,10 +115,9 @@ fn put_row(row: Row, set: u32, numbers: &[u32; 31], out: &mut [u8], at: usize) -
     ensures out_after { out.new ≡ placed out.old at (cond (Groups.has set row.0) (spelled (octets_of row.2) (get_or numbers.now row.1 0)) []) }
 {
     if has(set, row.0) {
-        let width = row.2;
-        let field = row.1 as usize;
-        put_value(out, at, width, numbers[field]);
-        return at + width_length(width);
+        let length = width_length(row.2);
+        put_number(out, at, length, numbers[row.1 as usize]);
+        return at + length;
     }
     at
 }
@@ -124,102 +128,74 @@ fn put_flags(kind: u8, set: u32, direction: u8, out: &mut [u8])
     ensures { out.new ≡ placed out.old 0 (spelled (flags_octets kind) (flags set direction)) }
 {
     let word = set + 1 - set % 2 * 2 + (direction as u32) * 32768;
-    if kind == CROSS_TRAINER {
-        put_u24(out, 0, word);
-    } else {
-        put_u16(out, 0, word as u16);
-    }
+    put_number(out, 0, flags_length(kind), word);
 }
 
 // Writes the numbers of a set's groups after the flags, in wire order.
 fn put_rows(kind: u8, set: u32, numbers: &[u32; 31], out: &mut [u8])
     ensures { out.new ≡ placed out.old (flags_octets kind) (written (named set (layout kind)) numbers.now) }
 {
-    let count = row_count(kind);
     let mut at = flags_length(kind);
-    for i in 0..count {
-        let row = row_of(kind, i);
-        at = put_row(row, set, numbers, out, at);
+    for row in rows(kind) {
+        at = put_row(*row, set, numbers, out, at);
     }
 }
 
-// Writes a part: its flags, and the groups of its set.
-fn put_part(kind: u8, set: u32, direction: u8, numbers: &[u32; 31], out: &mut [u8])
-    requires { (set < 32768) × (direction < 2) }
-    ensures { out.new ≡ placed out.old 0 (Split.octets kind set direction numbers.now) }
+// Writes a part of a record: its flags, and the groups of its set.
+fn put_part(wire: &Wire, set: u32, out: &mut [u8])
+    requires { (set < 32768) × (wire.now.direction < 2) }
+    ensures { out.new ≡ placed out.old 0 (Split.octets wire.now.kind set wire.now.direction wire.now.numbers) }
 {
-    put_flags(kind, set, direction, out);
-    put_rows(kind, set, numbers, out);
+    put_flags(wire.kind, set, wire.direction, out);
+    put_rows(wire.kind, set, &wire.numbers, out);
 }
 
 // Writes a part of a well-formed record at a payload that is in range; refuses with 15, then 14.
-fn write_part(
-    kind: u8,
-    groups: u32,
-    direction: u8,
-    numbers: &[u32; 31],
-    payload: usize,
-    part: usize,
-    out: &mut [u8],
-) -> SplitAnswer
-    requires { (groups < 32767) × (direction < 2) × (20 ≤ payload) }
-    ensures result_value { meant result ≡ extent_of kind groups direction numbers.now payload part (length out.old) }
-    ensures out_after { out.new ≡ after (extent_of kind groups direction numbers.now payload part (length out.old)) (over out.old (Split.octets kind (set_at kind groups payload part) direction numbers.now)) out.old }
+fn write_part(wire: &Wire, payload: usize, part: usize, out: &mut [u8]) -> Result<Extent, Refusal>
+    requires { (wire.now.groups < 32767) × (wire.now.direction < 2) × (20 ≤ payload) }
+    ensures result_value { meant result ≡ extent_of wire.now.kind wire.now.groups wire.now.direction wire.now.numbers payload part (length out.old) }
+    ensures out_after { out.new ≡ after (extent_of wire.now.kind wire.now.groups wire.now.direction wire.now.numbers payload part (length out.old)) (over out.old (Split.octets wire.now.kind (set_at wire.now.kind wire.now.groups payload part) wire.now.direction wire.now.numbers)) out.old }
 {
-    let start = flags_length(kind);
-    let cut = cut_at(kind, groups, payload - start, part);
-    let set = cut.set;
+    let cut = cut_part(wire, payload, part);
     let parts = cut.parts;
     if parts <= part {
-        return SplitAnswer::Refused(Refusal::NoSuchPart);
+        return Err(Refusal::NoSuchPart);
     }
-    let length = start + groups_length(kind, set);
+    let length = flags_length(wire.kind) + groups_length(wire.kind, cut.set);
     if out.len() < length {
-        return SplitAnswer::Refused(Refusal::OutputTooShort);
+        return Err(Refusal::OutputTooShort);
     }
-    put_part(kind, set, direction, numbers, out);
-    SplitAnswer::Part(Extent { length, parts })
+    put_part(wire, cut.set, out);
+    Ok(Extent { length, parts })
 }
 
 // Like `split`, for a caller that has the record's wire numbers.
 pub fn split_numbers(
-    kind: u8,
-    groups: u32,
-    direction: u8,
-    numbers: &[u32; 31],
+    wire: &Wire,
     payload: usize,
     part: usize,
     out: &mut [u8],
-) -> SplitAnswer
-    ensures result_value { meant result ≡ split_wire kind groups direction numbers.now payload part (length out.old) }
-    ensures out_after { out.new ≡ after (split_wire kind groups direction numbers.now payload part (length out.old)) (over out.old (Split.octets kind (set_at kind groups payload part) direction numbers.now)) out.old }
+) -> Result<Extent, Refusal>
+    ensures result_value { meant result ≡ split_wire wire.now.kind wire.now.groups wire.now.direction wire.now.numbers payload part (length out.old) }
+    ensures out_after { out.new ≡ after (split_wire wire.now.kind wire.now.groups wire.now.direction wire.now.numbers payload part (length out.old)) (over out.old (Split.octets wire.now.kind (set_at wire.now.kind wire.now.groups payload part) wire.now.direction wire.now.numbers)) out.old }
 {
-    if !is_known(kind) {
-        return SplitAnswer::Refused(Refusal::UnknownKind);
+    if !is_known(wire.kind) {
+        return Err(Refusal::UnknownKind);
     }
     if !is_payload(payload) {
-        return SplitAnswer::Refused(Refusal::PayloadOutOfRange);
+        return Err(Refusal::PayloadOutOfRange);
     }
-    if !formed(kind, groups, direction, numbers) {
-        return SplitAnswer::Refused(Refusal::NotWellFormed);
+    if !formed(wire) {
+        return Err(Refusal::NotWellFormed);
     }
-    write_part(kind, groups, direction, numbers, payload, part, out)
+    write_part(wire, payload, part, out)
 }
 
 // Writes a part of a record, counted from 0, at a payload: its octets go to the lent buffer, and its length and the number of parts are
 // returned. A refusal is the first of 11, 12, 13, 15 and 14 that applies; it writes nothing.
-pub fn split(record: Record, payload: usize, part: usize, out: &mut [u8]) -> SplitAnswer
+pub fn split(record: Record, payload: usize, part: usize, out: &mut [u8]) -> Result<Extent, Refusal>
     ensures result_value { meant result ≡ split_of «record» payload part (length out.old) }
     ensures out_after { out.new ≡ lent_after «record» payload part out.old }
 {
-    let numbers = numbers_of(record);
-    split_numbers(
-        record.kind,
-        record.groups,
-        record.direction,
-        &numbers,
-        payload,
-        part,
-        out,
-    )
+    split_numbers(&Wire::from(record), payload, part, out)
 }

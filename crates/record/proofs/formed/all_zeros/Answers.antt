@@ -1,15 +1,13 @@
-use mathlib.Core.Path.{sym, ◌∙◌}
-use borrow.Author.Rules.{rules}
-use borrow.Author.Tests.{eq-eqb, ne_eqb}
-use Rattle.record.proofs.Turns.{zero_turn, zero_end}
+-- `all_zeros` meets its contract: each number is compared with 0. Assumes nothing.
+use mathlib.Core.Path.{◌∙◌}
+use Rattle.std.proofs.Common.{rules, tests}
+use Rattle.std.proofs.lemmas.Iterator.{YieldsList-from_slice}
+use Rattle.std.proofs.lemmas.Iterator.Search.{all_from_yields_List}
+use lib.Dec.{eqb}
+use Rattle.record.proofs.Turns.{zeros_by_test}
 use Rattle.record.proofs.formed.all_zeros.Goals as goal
 
-pub returns-then-numbers-i-ne0 : goal.returns-then-numbers-i-ne0
-returns-then-numbers-i-ne0 c = let v = c.args.numbers.now in
-    zero_turn v c.loop-i.i (search rules) (ne_eqb _ _ c.if-numbers-i-ne0.true) c.loop-i.invariant.2
-
-pub loop-i-preserved : goal.loop-i-preserved
-loop-i-preserved c = let v = c.args.numbers.now in (search rules, search rules, zero_turn v c.loop-i.i (search rules) (eq-eqb _ _ c.if-numbers-i-ne0.false) c.loop-i.invariant.2)
-
 pub returns : goal.returns
-returns c = sym (zero_end c.args.numbers.now c.loop-i.i (search rules)) ∙ c.loop-i.invariant.2
+returns c =
+    all_from_yields_List (λ x. eqb x 0) _ _ _ c.all.ensures.ran (YieldsList-from_slice c.args.numbers.now cc) (λ x b q k. search (rules, tests))
+    ∙ zeros_by_test c.args.numbers.now

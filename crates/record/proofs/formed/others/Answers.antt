@@ -1,21 +1,18 @@
 use mathlib.Core.Path.{sym, ◌∙◌}
-use borrow.Author.Rules.{rules}
+use Rattle.std.proofs.Common.{rules}
 use Rattle.record.specs.Layout.{layout}
 use Rattle.record.proofs.Tables.{field_below}
 use Rattle.record.proofs.Turns.{others_turn, others_end}
 use Rattle.record.proofs.formed.others.Goals as goal
 
 pub clear_row-requires : goal.clear_row-requires
-clear_row-requires c = rw c.row_of.ensures (field_below _ _)
+clear_row-requires c = rw c.rows-row-items.ensures (field_below _ _)
 
-pub loop-i-preserved : goal.loop-i-preserved
-loop-i-preserved c = let a = c.args in (
-  search rules,
-  search rules,
-  others_turn a.set (layout a.kind) c.loop-i.i c.row_of.result c.row_of.ensures (search rules) c.loop-i.v
-      c.clear_row.ensures c.loop-i.invariant.2,
-)
+pub loop-row-preserved : goal.loop-row-preserved
+loop-row-preserved c = let a = c.args in
+    others_turn a.set (layout a.kind) c.loop-row.row-index _ (rw c.rows-row-items.ensures) (rw (← c.rows-row-items.ensures) c.loop-row-test.true) c.loop-row.v
+    c.clear_row.ensures c.loop-row.invariant
 
 pub returns : goal.returns
 returns c = let a = c.args in
-    sym (others_end a.set (layout a.kind) c.loop-i.i (search rules) c.loop-i.v) ∙ c.loop-i.invariant.2
+    sym (others_end a.set (layout a.kind) c.loop-row.row-index (search rules) c.loop-row.v) ∙ c.loop-row.invariant

@@ -2,4 +2,4 @@
 use Rattle.record.proofs.formed.well_formed.Goals as goal
 
 pub returns : goal.returns
-returns c = rw (c.formed.ensures, c.numbers_of-numbers.ensures)
+returns c = rw (c.formed.ensures, c.from.ensures)

@@ -1,4 +1,4 @@
--- `numbers_of` meets its contract, field by field. Assumes nothing.
+-- `numbers_of` meets its contract: the signed numbers by their bits. Assumes nothing.
 use mathlib.Core.Path.{◌∙◌}
 use mathlib.Core.List.{[], ◌∷◌}
 use borrow.Author.Rules.{rules}
@@ -9,34 +9,34 @@ pub returns : goal.returns
 returns c =
     let r = c.args.r in
     λ i.
-    c.wide.ensures i ∷
-    c.wide-2.ensures i ∷
-    c.wide-3.ensures i ∷
-    c.short.ensures i ∷
-    c.wide-4.ensures i ∷
-    c.wide-5.ensures i ∷
+    r.speed ∷
+    r.climb.floors ∷
+    r.climb.steps ∷
+    r.stroke.rate ∷
+    r.stroke.count ∷
+    r.average_speed ∷
     r.distance ∷
-    (c.bits.ensures ∙ back r.slope.inclination.0 (search rules)) i ∷
-    (c.bits-2.ensures ∙ back r.slope.ramp_angle.0 (search rules)) i ∷
-    c.wide-6.ensures i ∷
-    c.wide-7.ensures i ∷
-    c.wide-8.ensures i ∷
-    c.wide-9.ensures i ∷
-    c.wide-10.ensures i ∷
-    c.wide-11.ensures i ∷
-    c.short-2.ensures i ∷
-    c.short-3.ensures i ∷
-    c.short-4.ensures i ∷
-    c.wide-12.ensures i ∷
-    c.wide-13.ensures i ∷
-    (c.bits-3.ensures ∙ back r.force.belt (search rules)) i ∷
-    (c.bits-4.ensures ∙ back r.force.power_output (search rules)) i ∷
-    c.wide-14.ensures i ∷
-    c.wide-15.ensures i ∷
-    c.wide-16.ensures i ∷
-    (c.bits-5.ensures ∙ back r.resistance (search rules)) i ∷
-    (c.bits-6.ensures ∙ back r.power (search rules)) i ∷
-    (c.bits-7.ensures ∙ back r.average_power (search rules)) i ∷
-    c.short-5.ensures i ∷
-    c.wide-17.ensures i ∷
-    c.wide-18.ensures i ∷ []
+    (c.unsigned.ensures ∙ back r.slope.inclination.0 (search rules)) i ∷
+    (c.unsigned-2.ensures ∙ back r.slope.ramp_angle.0 (search rules)) i ∷
+    r.gain.positive ∷
+    r.gain.negative ∷
+    r.pace ∷
+    r.average_pace ∷
+    r.energy.total ∷
+    r.energy.per_hour ∷
+    r.energy.per_minute ∷
+    r.heart_rate ∷
+    r.metabolic_equivalent ∷
+    r.elapsed ∷
+    r.remaining ∷
+    (c.unsigned-3.ensures ∙ back r.force.belt (search rules)) i ∷
+    (c.unsigned-4.ensures ∙ back r.force.power_output (search rules)) i ∷
+    r.step_rates.rate ∷
+    r.step_rates.average ∷
+    r.stride_count ∷
+    (c.unsigned-5.ensures ∙ back r.resistance (search rules)) i ∷
+    (c.unsigned-6.ensures ∙ back r.power (search rules)) i ∷
+    (c.unsigned-7.ensures ∙ back r.average_power (search rules)) i ∷
+    r.average_stroke_rate ∷
+    r.cadence ∷
+    r.average_cadence ∷ []

@@ -1,10 +1,7 @@
--- `u16_at` meets its contract: one octet more to read. Assumes nothing.
-use mathlib.Core.Path.{sym}
-use Rattle.record.proofs.OctetLaws.{number_step, number_past}
+-- `u16_at` meets its contract: two octets spell a number below 256 ^ 2. Assumes nothing.
+use native.Mathlib.Omega.{arith}
+use Rattle.record.proofs.OctetLaws.{octets_below}
 use Rattle.record.proofs.octets.u16_at.Goals as goal
 
-pub returns-then-at-s : goal.returns-then-at-s
-returns-then-at-s c = rw (number_step 1, c.u8_at-low.ensures, c.u8_at-high.ensures)
-
-pub returns : goal.returns
-returns c = sym (number_past 2 _ c.if-at-s.false)
+pub overflow_cast-result : goal.overflow_cast-result
+overflow_cast-result c = record { fits = omega (arith, c.number_at.ensures, octets_below 2 c.args.at c.args.s.now c.type_inv.s) }

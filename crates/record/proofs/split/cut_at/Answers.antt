@@ -1,5 +1,5 @@
 use Prim.Native.Nat.{◌+◌, ◌-◌}
-use mathlib.Core.Path.{◌≡◌}
+use mathlib.Core.Path.{◌≡◌, sym, ◌∙◌}
 use mathlib.Core.Bool.{true, false}
 use mathlib.Core.List.{[], ◌∷◌}
 use native.Mathlib.Omega.{arith}
@@ -30,6 +30,7 @@ loop-parts-preserved c = let a = c.args in
 
 pub returns : goal.returns
 unfolding cut
-returns c = let a = c.args in
+returns c =
+    let e : c.loop-parts.parts ≡ 16 = omega arith in
     let n : 16 - c.loop-parts.parts ≡ 0 = omega arith in
-    arrived _ _ _ _ (rw n at c.loop-parts.invariant.2)
+    let r = arrived _ _ _ _ (rw n at c.loop-parts.invariant.2) in (r.0, sym e ∙ r.1)

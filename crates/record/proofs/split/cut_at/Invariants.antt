@@ -7,7 +7,3 @@ use Rattle.record.proofs.split.cut_at.Given as goal
 abbrev pub invariant-loop-parts : goal.invariant-loop-parts
 invariant-loop-parts l =
     (l.parts ≤ 16) × (l.left ≤ l.groups) × Reached (cut l.kind l.room l.groups 16) (cut l.kind l.room l.left (16 - l.parts)) l.part l.set l.parts
-
-abbrev pub decreases-loop-parts : goal.decreases-loop-parts
-decreases-loop-parts l =
-    16 - l.parts

@@ -12,9 +12,9 @@ use Rattle.record.proofs.OctetLaws.{length_spelled, placed_append}
 use Rattle.record.proofs.split.put_part.Goals as goal
 
 pub returns : goal.returns
-returns c = let a = c.args in
-    let head = spelled (flags_octets a.kind) (flags a.set a.direction) in
-    let body = written (named a.set (layout a.kind)) a.numbers.now in
-    c.put_rows.ensures ∙ ap (λ (l : List ℕ). placed l (flags_octets a.kind) body) c.put_flags.ensures
-    ∙ ap (λ (n : ℕ). placed (placed a.out.now 0 head) n body) (sym (length_spelled (flags_octets a.kind) (flags a.set a.direction)) ∙ sym (zero-add (length head)))
-    ∙ placed_append a.out.now 0 head body
+returns c = let w = c.args.wire.now in
+    let head = spelled (flags_octets w.kind) (flags c.args.set w.direction) in
+    let body = written (named c.args.set (layout w.kind)) w.numbers in
+    c.put_rows.ensures ∙ ap (λ (l : List ℕ). placed l (flags_octets w.kind) body) c.put_flags.ensures
+    ∙ ap (λ (n : ℕ). placed (placed c.args.out.now 0 head) n body) (sym (length_spelled (flags_octets w.kind) (flags c.args.set w.direction)) ∙ sym (zero-add (length head)))
+    ∙ placed_append c.args.out.now 0 head body

@@ -13,25 +13,22 @@ use Rattle.record.proofs.split.put_rows.Goals as goal
 pub put_row-at-requires : goal.put_row-at-requires
 put_row-at-requires c = let kind = c.args.kind in
     let n : length (layout kind) ≤ 20 = rows_most kind in
-    let f : (get_or (layout kind) c.loop-i.i no_row).1 < 31 = field_below kind c.loop-i.i in
-    (rw c.row_of-row.ensures f, omega arith)
+    let i : c.loop-row.row-index < length (layout kind) = rw (← c.rows-row-items.ensures) c.loop-row-test.true in
+    (rw c.rows-row-items.ensures (field_below kind c.loop-row.row-index), omega arith)
 
-pub loop-i-preserved : goal.loop-i-preserved
-loop-i-preserved c = let a = c.args in
-    let r = c.row_of-row.result in
+pub loop-row-preserved : goal.loop-row-preserved
+loop-row-preserved c = let a = c.args in
+    let r = get_or c.rows-row-items.result.now c.loop-row.row-index no_row in
     let w : octets_of r.2 ≤ 3 = width_most r.2 in
-    let i : c.loop-i.i < length (layout a.kind) = omega arith in (
-      c.loop-i.invariant.0,
-      omega arith,
-      rw c.put_row-at.ensures.value (taken_most (has a.set r.0) (octets_of r.2) c.loop-i.at c.loop-i.i w (omega arith)),
-      c.put_row-at.auto.out ∙ c.loop-i.invariant.3,
+    let i : c.loop-row.row-index < length (layout a.kind) = rw (← c.rows-row-items.ensures) c.loop-row-test.true in (
+      rw c.put_row-at.ensures.value (taken_most (has a.set r.0) (octets_of r.2) c.loop-row.at c.loop-row.row-index w (omega arith)),
       rw (c.put_row-at.ensures.value, c.put_row-at.ensures.out_after)
-          (write_next a.set (layout a.kind) c.loop-i.i r a.numbers.now c.loop-i.out c.loop-i.at c.row_of-row.ensures i
-          ∙ c.loop-i.invariant.4),
+          (write_next a.set (layout a.kind) c.loop-row.row-index r a.numbers.now c.loop-row.out c.loop-row.at (rw c.rows-row-items.ensures) i
+          ∙ c.loop-row.invariant.1),
     )
 
 pub returns : goal.returns
 returns c = let a = c.args in
-    let n : length (layout a.kind) ≤ c.loop-i.i = omega arith in
-    let e : drop c.loop-i.i (layout a.kind) ≡ [] = drop_of_length-le (layout a.kind) n in
-    sym (write_none a.set (drop c.loop-i.i (layout a.kind)) a.numbers.now c.loop-i.out c.loop-i.at e) ∙ c.loop-i.invariant.4
+    let n : length (layout a.kind) ≤ c.loop-row.row-index = rw (← c.rows-row-items.ensures) c.loop-row-test.false in
+    let e : drop c.loop-row.row-index (layout a.kind) ≡ [] = drop_of_length-le (layout a.kind) n in
+    sym (write_none a.set (drop c.loop-row.row-index (layout a.kind)) a.numbers.now c.loop-row.out c.loop-row.at e) ∙ c.loop-row.invariant.1

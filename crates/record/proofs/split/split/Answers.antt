@@ -2,7 +2,7 @@
 use Rattle.record.proofs.split.split.Goals as goal
 
 pub returns-clause-result_value : goal.returns-clause-result_value
-returns-clause-result_value c = rw c.numbers_of-numbers.ensures at c.split_numbers.ensures.result_value
+returns-clause-result_value c = rw c.from.ensures at c.split_numbers.ensures.result_value
 
 pub returns-clause-out_after : goal.returns-clause-out_after
-returns-clause-out_after c = rw c.numbers_of-numbers.ensures at c.split_numbers.ensures.out_after
+returns-clause-out_after c = rw c.from.ensures at c.split_numbers.ensures.out_after

@@ -3,7 +3,7 @@ use Prim.Native.Nat.{◌≤◌, ◌<◌, ◌%◌}
 use mathlib.Core.Path.{◌≡◌, refl, sym, ◌∙◌}
 use mathlib.Core.Bool.{false}
 use native.Mathlib.Omega.{arith}
-use borrow.Author.Tests.{leb-true, not-true, not-false}
+use borrow.Author.Tests.{leb-true}
 use lib.Dec.{leb}
 use Rattle.record.specs.Groups.{known}
 use Rattle.record.specs.Record.{formed}
@@ -15,42 +15,42 @@ use Rattle.record.proofs.split.split_numbers.Goals as goal
 
 pub returns-then-not-is_known-clause-result_value : goal.returns-then-not-is_known-clause-result_value
 unfolding split_wire
-returns-then-not-is_known-clause-result_value c = let k : known c.args.kind ≡ false = sym c.is_known.ensures ∙ not-true _ c.if-not-is_known.true-raw in rw k refl
+returns-then-not-is_known-clause-result_value c = let k : known c.args.wire.now.kind ≡ false = sym c.is_known.ensures ∙ c.if-not-is_known.true in rw k refl
 
 pub returns-then-not-is_known-clause-out_after : goal.returns-then-not-is_known-clause-out_after
 unfolding split_wire
-returns-then-not-is_known-clause-out_after c = let k : known c.args.kind ≡ false = sym c.is_known.ensures ∙ not-true _ c.if-not-is_known.true-raw in rw k refl
+returns-then-not-is_known-clause-out_after c = let k : known c.args.wire.now.kind ≡ false = sym c.is_known.ensures ∙ c.if-not-is_known.true in rw k refl
 
 pub returns-then-not-is_payload-clause-result_value : goal.returns-then-not-is_payload-clause-result_value
 unfolding split_wire
-returns-then-not-is_payload-clause-result_value c = let p : payload_known c.args.payload ≡ false = sym c.is_payload.ensures ∙ not-true _ c.if-not-is_payload.true-raw in rw ((sym c.is_known.ensures ∙ not-false _ c.if-not-is_known.false-raw), p) refl
+returns-then-not-is_payload-clause-result_value c = let p : payload_known c.args.payload ≡ false = sym c.is_payload.ensures ∙ c.if-not-is_payload.true in rw ((sym c.is_known.ensures ∙ c.if-not-is_known.false), p) refl
 
 pub returns-then-not-is_payload-clause-out_after : goal.returns-then-not-is_payload-clause-out_after
 unfolding split_wire
-returns-then-not-is_payload-clause-out_after c = let p : payload_known c.args.payload ≡ false = sym c.is_payload.ensures ∙ not-true _ c.if-not-is_payload.true-raw in rw ((sym c.is_known.ensures ∙ not-false _ c.if-not-is_known.false-raw), p) refl
+returns-then-not-is_payload-clause-out_after c = let p : payload_known c.args.payload ≡ false = sym c.is_payload.ensures ∙ c.if-not-is_payload.true in rw ((sym c.is_known.ensures ∙ c.if-not-is_known.false), p) refl
 
 pub returns-then-not-formed-clause-result_value : goal.returns-then-not-formed-clause-result_value
 unfolding split_wire
 returns-then-not-formed-clause-result_value c = let a = c.args in
-    let f : formed a.kind a.groups a.direction a.numbers.now ≡ false = sym c.formed.ensures ∙ not-true _ c.if-not-formed.true-raw in rw ((sym c.is_known.ensures ∙ not-false _ c.if-not-is_known.false-raw), (sym c.is_payload.ensures ∙ not-false _ c.if-not-is_payload.false-raw), f) refl
+    let f : formed a.wire.now.kind a.wire.now.groups a.wire.now.direction a.wire.now.numbers ≡ false = sym c.formed.ensures ∙ c.if-not-formed.true in rw ((sym c.is_known.ensures ∙ c.if-not-is_known.false), (sym c.is_payload.ensures ∙ c.if-not-is_payload.false), f) refl
 
 pub returns-then-not-formed-clause-out_after : goal.returns-then-not-formed-clause-out_after
 unfolding split_wire
 returns-then-not-formed-clause-out_after c = let a = c.args in
-    let f : formed a.kind a.groups a.direction a.numbers.now ≡ false = sym c.formed.ensures ∙ not-true _ c.if-not-formed.true-raw in rw ((sym c.is_known.ensures ∙ not-false _ c.if-not-is_known.false-raw), (sym c.is_payload.ensures ∙ not-false _ c.if-not-is_payload.false-raw), f) refl
+    let f : formed a.wire.now.kind a.wire.now.groups a.wire.now.direction a.wire.now.numbers ≡ false = sym c.formed.ensures ∙ c.if-not-formed.true in rw ((sym c.is_known.ensures ∙ c.if-not-is_known.false), (sym c.is_payload.ensures ∙ c.if-not-is_payload.false), f) refl
 
 pub write_part-requires : goal.write_part-requires
 write_part-requires c = let a = c.args in
-    let g = formed_listed a.kind a.groups a.direction a.numbers.now ((sym c.formed.ensures ∙ not-false _ c.if-not-formed.false-raw)) in
-    let l : a.groups < 32768 = listed_groups_low a.kind a.groups g in
-    let z : a.groups % 2 ≡ 0 = listed_groups_even a.kind a.groups g in
-    let p : 20 ≤ a.payload = leb-true 20 a.payload (and_l (leb 20 a.payload) (leb a.payload 512) ((sym c.is_payload.ensures ∙ not-false _ c.if-not-is_payload.false-raw))) in
-    (omega arith, formed_way a.kind a.groups a.direction a.numbers.now ((sym c.formed.ensures ∙ not-false _ c.if-not-formed.false-raw)), p)
+    let g = formed_listed a.wire.now.kind a.wire.now.groups a.wire.now.direction a.wire.now.numbers ((sym c.formed.ensures ∙ c.if-not-formed.false)) in
+    let l : a.wire.now.groups < 32768 = listed_groups_low a.wire.now.kind a.wire.now.groups g in
+    let z : a.wire.now.groups % 2 ≡ 0 = listed_groups_even a.wire.now.kind a.wire.now.groups g in
+    let p : 20 ≤ a.payload = leb-true 20 a.payload (and_l (leb 20 a.payload) (leb a.payload 512) ((sym c.is_payload.ensures ∙ c.if-not-is_payload.false))) in
+    (omega arith, formed_way a.wire.now.kind a.wire.now.groups a.wire.now.direction a.wire.now.numbers ((sym c.formed.ensures ∙ c.if-not-formed.false)), p)
 
 pub returns-clause-result_value : goal.returns-clause-result_value
 unfolding split_wire
-returns-clause-result_value c = rw ((sym c.is_known.ensures ∙ not-false _ c.if-not-is_known.false-raw), (sym c.is_payload.ensures ∙ not-false _ c.if-not-is_payload.false-raw), (sym c.formed.ensures ∙ not-false _ c.if-not-formed.false-raw)) c.write_part.ensures.result_value
+returns-clause-result_value c = rw ((sym c.is_known.ensures ∙ c.if-not-is_known.false), (sym c.is_payload.ensures ∙ c.if-not-is_payload.false), (sym c.formed.ensures ∙ c.if-not-formed.false)) c.write_part.ensures.result_value
 
 pub returns-clause-out_after : goal.returns-clause-out_after
 unfolding split_wire
-returns-clause-out_after c = rw ((sym c.is_known.ensures ∙ not-false _ c.if-not-is_known.false-raw), (sym c.is_payload.ensures ∙ not-false _ c.if-not-is_payload.false-raw), (sym c.formed.ensures ∙ not-false _ c.if-not-formed.false-raw)) c.write_part.ensures.out_after
+returns-clause-out_after c = rw ((sym c.is_known.ensures ∙ c.if-not-is_known.false), (sym c.is_payload.ensures ∙ c.if-not-is_payload.false), (sym c.formed.ensures ∙ c.if-not-formed.false)) c.write_part.ensures.out_after

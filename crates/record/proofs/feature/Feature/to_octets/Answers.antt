@@ -5,5 +5,5 @@ use Rattle.record.proofs.OctetLaws.{length_spelled, placed_full}
 use Rattle.record.proofs.feature.Feature.to_octets.Goals as goal
 
 pub returns : goal.returns
-returns c = rw (c.put_u32-2.ensures, c.put_u32.ensures)
+returns c = rw (c.put_number-2.ensures, c.put_number.ensures)
     (placed_full _ (spelled 4 _) (spelled 4 _) 4 4 (length_spelled 4 _) (length_spelled 4 _) refl)
