@@ -21,7 +21,7 @@ ghost use Rattle.service.specs.Control.Calls.{opening, opens, connects, disconne
 use crate::control::counted::{Counted, none};
 use crate::control::effects::{perform, setting};
 use crate::control::machine::{Machine, Setup, without};
-use crate::control::ranges::{HeartRateRange, Ranges, SignedRange, SpeedRange};
+use crate::control::ranges::Ranges;
 use crate::control::spin_down::{TargetSpeeds, feed};
 use record::feature::{Feature, FeatureAnswer};
 use record::refusal::Refusal;
@@ -94,35 +94,13 @@ fn opened(setup: Setup) -> Console
 fn closed() -> Console
     ensures { result ≡ ConsoleSpecs.closed }
 {
-    let signed = SignedRange {
-        least: 0,
-        greatest: 0,
-        increment: 0,
-    };
-    let ranges = Ranges {
-        speed: SpeedRange {
-            least: 0,
-            greatest: 0,
-            increment: 0,
-        },
-        inclination: signed,
-        resistance: signed,
-        power: signed,
-        heart_rate: HeartRateRange {
-            least: 0,
-            greatest: 0,
-            increment: 0,
-        },
-    };
-    let feature = Feature {
-        features: 0,
-        targets: 0,
-    };
-    let speeds = TargetSpeeds { low: 0, high: 0 };
     opened(Setup {
-        feature,
-        ranges,
-        speeds,
+        feature: Feature {
+            features: 0,
+            targets: 0,
+        },
+        ranges: Ranges::default(),
+        speeds: TargetSpeeds::default(),
     })
 }
 

@@ -5,7 +5,7 @@ ghost use Rattle.service.specs.Control.Judging;
 
 use crate::control::machine::{Machine, Mode};
 use crate::control::op_codes::{Act, OpCode};
-use crate::control::ranges::{Ranges, allowed};
+use crate::control::ranges::Ranges;
 use crate::control::spin_down::Run;
 use record::feature::Feature;
 use record::octets::u8_at;
@@ -48,7 +48,7 @@ fn controls(holder: Option<u8>, client: u8, act: Act) -> bool
 fn fit(ranges: Ranges, code: OpCode, p: &[u8]) -> bool
     ensures { result ≡ Judging.fit ranges code p.now }
 {
-    p.len() == code.parameter.length() as usize && allowed(ranges, code.bound, p)
+    p.len() == code.parameter.length() as usize && ranges.allow(code.bound, p)
 }
 
 // "08 with 1 finds stopped, or 08 with 2 finds anything but running"

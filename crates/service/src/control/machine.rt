@@ -5,7 +5,7 @@ ghost use Rattle.service.specs.Control.Machine.{usable, held_by, cleared};
 ghost use Rattle.service.specs.Control.Machine as MachineSpecs;
 
 use crate::control::counted::put;
-use crate::control::ranges::{Ranges, are_ranges};
+use crate::control::ranges::Ranges;
 use crate::control::spin_down::{Run, TargetSpeeds};
 use record::feature::Feature;
 
@@ -39,7 +39,7 @@ impl Setup {
     pub(crate) fn is_usable(self) -> bool
         ensures { result ≡ usable self }
     {
-        are_ranges(self.ranges) && self.speeds.are_in_order()
+        self.ranges.are_ranges() && self.speeds.are_in_order()
     }
 }
 

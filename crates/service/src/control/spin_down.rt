@@ -7,7 +7,7 @@ use crate::control::counted::{Counted, none, two};
 use crate::control::op_codes::Act;
 
 // The two target speeds of a run, "fixed when the machine is opened".
-#[derive(Clone, Copy)]
+#[derive(Clone, Copy, Default)]
 pub struct TargetSpeeds {
     pub low: u16,
     pub high: u16,
