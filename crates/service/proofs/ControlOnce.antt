@@ -7,8 +7,8 @@ use Rattle.record.specs.Refusal.{number_of}
 use Rattle.record.proofs.Once.{Once, same, number_same, never}
 use Rattle.record.proofs.RefusalLaws.{number_once}
 use Rattle.service.specs.declared.control.Console.{Console}
-use Rattle.service.specs.declared.control.Outcome.{Outcome}
-use Rattle.service.specs.declared.control.Outcome.TheVariants.{Done, Refused}
+use Rattle.std.specs.Prelude.{Result, Ok, Err}
+use Rattle.record.specs.declared.refusal.Refusal.{Refusal}
 use Rattle.service.specs.declared.control.Reply.{Reply}
 use Rattle.service.specs.Control.Replies.{Sent, meant_outcome, Says}
 use Rattle.service.proofs.control.Console.open.Reads as open_reads
@@ -25,11 +25,11 @@ use Rattle.service.proofs.control.parameters.Parameter.length.Reads as length
 use Rattle.service.proofs.control.parameters.Parameter.count.Reads as count
 use Rattle.service.proofs.control.parameters.Parameter.width.Reads as width
 
-outcome_meant : (x y : Outcome) (r s u v : List ℕ) → meant_outcome x r s ≡ meant_outcome y u v → x ≡ y
-outcome_meant Done Done r s u v e = refl
-outcome_meant Done (Refused b) r s u v e = absurd (never _ (number_of b) e)
-outcome_meant (Refused a) Done r s u v e = absurd (never _ (number_of a) (sym e))
-outcome_meant (Refused a) (Refused b) r s u v e = ap Refused (number_once a b (number_same (number_of a) (number_of b) e))
+outcome_meant : (x y : Result (Unit {0}) Refusal) (r s u v : List ℕ) → meant_outcome x r s ≡ meant_outcome y u v → x ≡ y
+outcome_meant (Ok x) (Ok y) r s u v e = refl
+outcome_meant (Ok x) (Err b) r s u v e = absurd (never _ (number_of b) e)
+outcome_meant (Err a) (Ok y) r s u v e = absurd (never _ (number_of a) (sym e))
+outcome_meant (Err a) (Err b) r s u v e = ap Err (number_once a b (number_same (number_of a) (number_of b) e))
 
 -- two replies that say the same are equal
 pub reply_once : (x y : Reply) (z : Answer Sent × Console) → Says x z → Says y z → x ≡ y

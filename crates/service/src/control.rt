@@ -13,15 +13,15 @@ ghost use Rattle.std.specs.Prelude.{◌≡◌, ◌≤◌};
 ghost use Rattle.record.specs.Refusal.{number_of};
 ghost use Rattle.service.specs.Control.Counted.{boxed};
 ghost use Rattle.service.specs.Control.Effects;
-ghost use Rattle.service.specs.Control.Console.{first, client_at, with_client};
+ghost use Rattle.service.specs.Control.Console.{first, connected, with_client};
 ghost use Rattle.service.specs.Control.Console as ConsoleSpecs;
 ghost use Rattle.service.specs.Control.Replies.{Says, refuses, accepts};
 ghost use Rattle.service.specs.Control.Calls.{opening, opens, connects, disconnects, indicates, confirms, answers, writes, feeds};
 
 use crate::control::counted::{Counted, none};
 use crate::control::effects::{perform, setting};
-use crate::control::machine::{Machine, Setup, Who};
-use crate::control::ranges::{HeartRateRange, Ranges, SignedRange, SpeedRange};
+use crate::control::machine::{Machine, Setup, without};
+use crate::control::ranges::Ranges;
 use crate::control::spin_down::{TargetSpeeds, feed};
 use record::feature::{Feature, FeatureAnswer};
 use record::refusal::Refusal;
@@ -33,25 +33,18 @@ pub struct Client {
     pub indicating: bool,
 }
 
-// What the calls act on: the machine, the four clients, and whose response awaits confirmation.
+// What the calls act on: the machine, the four clients, and the client whose response awaits confirmation, if one does.
 #[derive(Clone, Copy)]
 pub struct Console {
     pub machine: Machine,
     pub clients: [Client; 4],
-    pub awaited: Who,
+    pub awaited: Option<u8>,
 }
 
-// Whether a call was done or refused.
-#[derive(Clone, Copy)]
-pub enum Outcome {
-    Done,
-    Refused(Refusal),
-}
-
-// The reply to a call: the outcome, the response octets, the status octets (either may be empty), and the console after it.
+// The reply to a call: whether it was done or refused, the response octets, the status octets (either may be empty), and the console after it.
 #[derive(Clone, Copy)]
 pub struct Reply {
-    pub outcome: Outcome,
+    pub outcome: Result<(), Refusal>,
     pub response: Counted,
     pub status: Counted,
     pub console: Console,
@@ -67,7 +60,7 @@ fn refused(console: Console, why: Refusal) -> Reply
 {
     let nothing = none();
     Reply {
-        outcome: Outcome::Refused(why),
+        outcome: Err(why),
         response: nothing,
         status: nothing,
         console,
@@ -79,7 +72,7 @@ fn accepted(console: Console) -> Reply
 {
     let nothing = none();
     Reply {
-        outcome: Outcome::Done,
+        outcome: Ok(()),
         response: nothing,
         status: nothing,
         console,
@@ -93,7 +86,7 @@ fn opened(setup: Setup) -> Console
     Console {
         machine: Machine::fresh(setup),
         clients: [ABSENT; 4],
-        awaited: Who::Nobody,
+        awaited: None,
     }
 }
 
@@ -101,35 +94,13 @@ fn opened(setup: Setup) -> Console
 fn closed() -> Console
     ensures { result ≡ ConsoleSpecs.closed }
 {
-    let signed = SignedRange {
-        least: 0,
-        greatest: 0,
-        increment: 0,
-    };
-    let ranges = Ranges {
-        speed: SpeedRange {
-            least: 0,
-            greatest: 0,
-            increment: 0,
-        },
-        inclination: signed,
-        resistance: signed,
-        power: signed,
-        heart_rate: HeartRateRange {
-            least: 0,
-            greatest: 0,
-            increment: 0,
-        },
-    };
-    let feature = Feature {
-        features: 0,
-        targets: 0,
-    };
-    let speeds = TargetSpeeds { low: 0, high: 0 };
     opened(Setup {
-        feature,
-        ranges,
-        speeds,
+        feature: Feature {
+            features: 0,
+            targets: 0,
+        },
+        ranges: Ranges::default(),
+        speeds: TargetSpeeds::default(),
     })
 }
 
@@ -154,14 +125,15 @@ impl Console {
         }
     }
 
-    // The state of one of the four clients.
-    fn client_at(self, client: u8) -> Client
-        requires { client ≤ 3 }
-        ensures { result ≡ client_at self client }
+    // The state of a client that is connected; refusals 10, 17.
+    fn connected(self, client: u8) -> Result<Client, Refusal>
+        ensures { result ≡ connected self client }
     {
-        let clients = self.clients;
-        let c = client as usize;
-        clients[c]
+        match self.clients.get(client as usize) {
+            None => Err(Refusal::ClientAboveThree),
+            Some(state) if state.connected => Ok(*state),
+            Some(_) => Err(Refusal::ConnectionMismatch),
+        }
     }
 
     // The console with a new state of a client.
@@ -169,92 +141,73 @@ impl Console {
         requires { client ≤ 3 }
         ensures { result ≡ with_client self client state }
     {
-        let c = client as usize;
-        self.clients[c] = state;
+        self.clients[client as usize] = state;
         self
     }
 
     // A client connects, with indications off; refusals 10, 17.
+    #[tactic(auto, unfolding(crate::specs::Control::Calls::connects))]
     pub fn connect(self, client: u8) -> Reply
         ensures { Says result (connects self client) }
     {
-        if 3 < client {
-            return refused(self, Refusal::ClientAboveThree);
+        match self.clients.get(client as usize) {
+            None => refused(self, Refusal::ClientAboveThree),
+            Some(state) if state.connected => refused(self, Refusal::ConnectionMismatch),
+            Some(_) => accepted(self.with(
+                client,
+                Client {
+                    connected: true,
+                    indicating: false,
+                },
+            )),
         }
-        let was = self.client_at(client);
-        if was.connected {
-            return refused(self, Refusal::ConnectionMismatch);
-        }
-        let joined = Client {
-            connected: true,
-            indicating: false,
-        };
-        accepted(self.with(client, joined))
     }
 
     // A client disconnects, which frees control that it holds, its indications and its awaited response, and ends the run if it holds control; refusals 10, 17.
+    #[tactic(auto, unfolding(crate::specs::Control::Calls::disconnects))]
     pub fn disconnect(self, client: u8) -> Reply
         ensures { Says result (disconnects self client) }
     {
-        if 3 < client {
-            return refused(self, Refusal::ClientAboveThree);
+        match self.connected(client) {
+            Err(why) => refused(self, why),
+            Ok(_) => accepted(Console {
+                machine: self.machine.freed(client),
+                awaited: without(self.awaited, client),
+                ..self.with(client, ABSENT)
+            }),
         }
-        let was = self.client_at(client);
-        if !was.connected {
-            return refused(self, Refusal::ConnectionMismatch);
-        }
-        let left = self.with(client, ABSENT);
-        let clients = left.clients;
-        let machine = self.machine.freed(client);
-        let due = self.awaited;
-        let awaited = due.without(client);
-        accepted(Console {
-            machine,
-            clients,
-            awaited,
-        })
     }
 
     // A client turns its indications on or off, which leaves an awaited response due; refusals 10, 17.
+    #[tactic(auto, unfolding(crate::specs::Control::Calls::indicates))]
     pub fn indicate(self, client: u8, on: bool) -> Reply
         ensures { Says result (indicates self client on) }
     {
-        if 3 < client {
-            return refused(self, Refusal::ClientAboveThree);
+        match self.connected(client) {
+            Err(why) => refused(self, why),
+            Ok(state) => accepted(self.with(
+                client,
+                Client {
+                    indicating: on,
+                    ..state
+                },
+            )),
         }
-        let was = self.client_at(client);
-        if !was.connected {
-            return refused(self, Refusal::ConnectionMismatch);
-        }
-        let turned = Client {
-            connected: true,
-            indicating: on,
-        };
-        accepted(self.with(client, turned))
     }
 
     // A client confirms the response that is due to it; refusals 10, 17, 21.
+    #[tactic(auto, unfolding(crate::specs::Control::Calls::confirms))]
     pub fn confirm(self, client: u8) -> Reply
         ensures { Says result (confirms self client) }
     {
-        if 3 < client {
-            return refused(self, Refusal::ClientAboveThree);
+        match self.connected(client) {
+            Err(why) => refused(self, why),
+            Ok(_) if self.awaited == Some(client) => accepted(Console {
+                awaited: None,
+                ..self
+            }),
+            Ok(_) => refused(self, Refusal::NothingDue),
         }
-        let was = self.client_at(client);
-        if !was.connected {
-            return refused(self, Refusal::ConnectionMismatch);
-        }
-        let due = self.awaited;
-        if !due.is(client) {
-            return refused(self, Refusal::NothingDue);
-        }
-        let machine = self.machine;
-        let clients = self.clients;
-        accepted(Console {
-            machine,
-            clients,
-            awaited: Who::Nobody,
-        })
     }
 
     // A client writes an op code and its parameter; refusals 10, 17, 18, 19, 20. The response awaits confirmation; success may give status octets.
@@ -262,68 +215,53 @@ impl Console {
     pub fn write(self, client: u8, octets: &[u8]) -> Reply
         ensures { Says result (writes self client octets.now) }
     {
-        if 3 < client {
-            return refused(self, Refusal::ClientAboveThree);
-        }
-        let was = self.client_at(client);
-        if !was.connected {
-            return refused(self, Refusal::ConnectionMismatch);
-        }
-        if octets.len() == 0 {
+        let state = match self.connected(client) {
+            Ok(state) => state,
+            Err(why) => return refused(self, why),
+        };
+        let Some((op, p)) = octets.split_first() else {
             return refused(self, Refusal::EmptyWrite);
-        }
-        if !was.indicating {
+        };
+        if !state.indicating {
             return refused(self, Refusal::IndicationsOff);
         }
-        let due = self.awaited;
-        if due.is_someone() {
+        if self.awaited.is_some() {
             return refused(self, Refusal::ResponseAwaited);
         }
-        self.answer(client, octets[0], &octets[1..])
+        self.answer(client, *op, p)
     }
 
     // The response to a write that is not refused.
     fn answer(self, client: u8, op: u8, p: &[u8]) -> Reply
         ensures { Says result (answers self client op p.now) }
     {
-        let clients = self.clients;
         let performed = perform(self.machine, client, op, p);
-        let response = performed.response;
-        let status = performed.status;
-        let machine = performed.machine;
         Reply {
-            outcome: Outcome::Done,
-            response,
-            status,
+            outcome: Ok(()),
+            response: performed.response,
+            status: performed.status,
             console: Console {
-                machine,
-                clients,
-                awaited: Who::Client(client),
+                machine: performed.machine,
+                awaited: Some(client),
+                ..self
             },
         }
     }
 
     // A speed of the flywheel leads a run of spin down, and does nothing outside one; no client makes this call, and it is never refused.
+    #[tactic(auto, unfolding(crate::specs::Control::Calls::feeds))]
     pub fn flywheel(self, speed: u16) -> Reply
         ensures { Says result (feeds self speed) }
     {
-        let clients = self.clients;
-        let awaited = self.awaited;
-        let before = self.machine;
-        let was = before.run;
-        let fed = feed(before.setup.speeds, was, speed);
-        let status = fed.status;
-        let run = fed.run;
-        let machine = before.spinning(run);
-        let nothing = none();
+        let machine = self.machine;
+        let fed = feed(machine.setup.speeds, machine.run, speed);
         Reply {
-            outcome: Outcome::Done,
-            response: nothing,
-            status,
+            outcome: Ok(()),
+            response: none(),
+            status: fed.status,
             console: Console {
-                machine,
-                clients,
-                awaited,
+                machine: machine.spinning(fed.run),
+                ..self
             },
         }
     }

@@ -1,24 +1,27 @@
 -- What each call answers, from what its code has found out.
-use Prim.Native.Nat.{ℕ, ◌-◌, ◌≤◌, ◌<◌}
+use Prim.Native.Nat.{ℕ}
 use mathlib.Core.Path.{◌≡◌, refl, ap, ◌∙◌}
-use mathlib.Core.Bool.{true, false, not}
+use mathlib.Core.Bool.{true, false}
 use mathlib.Core.List.{List}
 use native.Mathlib.Omega.{arith}
-use lib.ListN.{length, get_or, take, drop, length-drop}
-use lib.Seq.{take_all}
-use borrow.Author.Tests.{lt-ltb, le-ltb, eq-eqb, ne_eqb}
+use lib.Dec.{ltb}
 use Rattle.record.specs.declared.feature.Feature.{Feature}
 use Rattle.record.specs.Answer.{Answer, refused, given}
 use Rattle.record.specs.Feature.{feature_of}
 use Rattle.service.specs.declared.control.Console.{Console}
 use Rattle.service.specs.declared.control.Reply.{Reply}
-use Rattle.service.specs.declared.control.Outcome.TheVariants.{Done}
+use Rattle.std.specs.Prelude.{Result, Ok, Err}
+use Rattle.record.proofs.Tests.{passed, failed, tested}
+use Rattle.record.specs.declared.refusal.Refusal.{Refusal}
+use Rattle.record.specs.declared.refusal.Refusal.TheVariants.{ClientAboveThree, ConnectionMismatch}
+use Rattle.record.specs.Refusal.{number_of}
+use Rattle.service.specs.declared.control.Client.{Client}
 use Rattle.service.specs.declared.control.machine.Setup.{Setup}
 use Rattle.service.specs.Control.Counted.{boxed}
-use Rattle.service.specs.Control.Machine.{usable, someone}
-use Rattle.service.specs.Control.Console.{is_connected, is_indicating, first}
-use Rattle.service.specs.Control.Replies.{refuses, sent, responds, Says}
-use Rattle.service.specs.Control.Calls.{Opening, open_with, opened, answers, writes}
+use Rattle.service.specs.Control.Machine.{usable}
+use Rattle.service.specs.Control.Console.{client_at, is_connected, connected, first}
+use Rattle.service.specs.Control.Replies.{Sent, refuses, sent, responds, Says}
+use Rattle.service.specs.Control.Calls.{Opening, open_with, opened, of_connected}
 use Rattle.service.proofs.ControlLaws.Boxes.{counts}
 
 -- ---- opening
@@ -40,46 +43,30 @@ module _ (o : Opening) where
     unfolding opened
     opens_with u = ap (λ (x : Answer Feature). open_with x o.ranges o.speeds) e ∙ rw u
 
+-- ---- a client that has to be connected
+
+same_refusal : (a b : Refusal) → ◌≡◌ {A = Result Client Refusal} (Err a) (Err b) → a ≡ b
+same_refusal a b e = cc
+
+no_state : {A : Type 0} (a : Refusal) (s : Client) → ◌≡◌ {A = Result Client Refusal} (Err a) (Ok s) → A
+no_state a s e = absurd (let z : ◌≡◌ {A = ℕ} 0 1 = cc in omega arith)
+
+-- the refusal of a client that is not connected is that of the call
+pub not_connected : (k : Console) (c : ℕ) (why : Refusal) (x : Answer Sent × Console) → Err why ≡ connected k c →
+    of_connected k c x ≡ refuses k (number_of why)
+not_connected k c why x e = elim (tested (ltb 3 c)) [
+  | passed t ↦ rw (t, same_refusal why ClientAboveThree (rw t at e)) refl
+  | failed t ↦ elim (tested (is_connected k c)) [
+    | passed j ↦ no_state why (client_at k c) (rw (t, j) at e)
+    | failed j ↦ rw (t, j, same_refusal why ConnectionMismatch (rw (t, j) at e)) refl
+  ]
+]
+
 -- ---- replies
 
 -- a reply with these octets
 abbrev pub says_sent : List ℕ → List ℕ → Console → Reply
-says_sent r s k = record { outcome = Done; response = boxed r; status = boxed s; console = k }
+says_sent r s k = record { outcome = Ok tt; response = boxed r; status = boxed s; console = k }
 
 pub sent_so : (r s : List ℕ) (k : Console) → Says (says_sent r s k) (responds r s k)
 sent_so r s k = record { means = λ i. (sent (counts r i) (counts s i), k); response_rest = refl; status_rest = refl }
-
--- ---- writing
-
-pub rest_of : (s : List ℕ) → take (length s - 1) (drop 1 s) ≡ drop 1 s
-rest_of s = take_all (length s - 1) (drop 1 s) (let e : length (drop 1 s) ≡ length s - 1 = length-drop 1 s in omega arith)
-
-module _ (k : Console) (c : ℕ) (s : List ℕ) where
-  pub writes_10 : 3 < c → writes k c s ≡ refuses k 10
-  unfolding writes
-  writes_10 h = rw (lt-ltb 3 c h)
-
-  module _ (h : c ≤ 3) where
-    pub writes_17 : not (is_connected k c) ≡ true → writes k c s ≡ refuses k 17
-    unfolding writes
-    writes_17 e = rw (le-ltb 3 c h, e)
-
-    module _ (e : not (is_connected k c) ≡ false) where
-      pub writes_18 : length s ≡ 0 → writes k c s ≡ refuses k 18
-      unfolding writes
-      writes_18 f = rw (le-ltb 3 c h, e, eq-eqb (length s) 0 f)
-
-      module _ (f : length s ≡ 0 → ⊥) where
-        pub writes_19 : not (is_indicating k c) ≡ true → writes k c s ≡ refuses k 19
-        unfolding writes
-        writes_19 g = rw (le-ltb 3 c h, e, ne_eqb (length s) 0 f, g)
-
-        module _ (g : not (is_indicating k c) ≡ false) where
-          pub writes_20 : someone k.awaited ≡ true → writes k c s ≡ refuses k 20
-          unfolding writes
-          writes_20 w = rw (le-ltb 3 c h, e, ne_eqb (length s) 0 f, g, w)
-
-          module _ (w : someone k.awaited ≡ false) where
-            pub writes_so : writes k c s ≡ answers k c (get_or s 0 0) (drop 1 s)
-            unfolding writes
-            writes_so = rw (le-ltb 3 c h, e, ne_eqb (length s) 0 f, g, w)

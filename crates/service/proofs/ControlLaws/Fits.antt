@@ -1,8 +1,8 @@
--- What a parameter that fits is known to be, and the result of a write from its tests.
+-- What a parameter that fits is known to be, and what the result of a write says of its tests.
 use Prim.Native.Nat.{ℕ, ◌≤◌}
 use mathlib.Core.Path.{◌≡◌, refl, sym, ◌∙◌}
-use mathlib.Core.Bool.{Bool, true, false, true≢false}
-use mathlib.Core.List.{List, [], ◌++◌}
+use mathlib.Core.Bool.{true, false, true≢false}
+use mathlib.Core.List.{List}
 use lib.Dec.{eqb}
 use lib.ListN.{length}
 use Rattle.record.specs.Octets.{number}
@@ -10,16 +10,14 @@ use Rattle.record.proofs.Tests.{passed, failed, tested, eqb_eq, and_l, and_r}
 use Rattle.service.specs.declared.control.ranges.Ranges.{Ranges}
 use Rattle.service.specs.declared.control.machine.Machine.{Machine}
 use Rattle.service.specs.declared.control.op_codes.OpCode.{OpCode}
-use Rattle.service.specs.declared.control.op_codes.Lookup.TheVariants.{Known, Unknown}
+use Rattle.std.specs.Prelude.{Some}
 use Rattle.service.specs.declared.control.judging.WriteResult.{WriteResult}
-use Rattle.service.specs.declared.control.judging.WriteResult.TheVariants.{Success, NotSupported, InvalidParameter, OperationFailed, ControlNotPermitted}
+use Rattle.service.specs.declared.control.judging.WriteResult.TheVariants.{Success}
 use Rattle.service.specs.Control.Ranges.{allowed}
 use Rattle.service.specs.Control.OpCodes.{op_code}
 use Rattle.service.specs.Control.Parameters.{size}
-use Rattle.service.specs.Control.Counted.{boxed}
-use Rattle.service.specs.Control.Judging.{succeeds, supports, controls, fit, fails, first_of, judged}
-use Rattle.service.specs.Control.SpinDown.{followed_by}
-use Rattle.service.specs.Control.Effects.{Room, response_octets, done, status_octets, performs}
+use Rattle.service.specs.Control.Judging.{succeeds, supports, controls, fit, fails, judged}
+use Rattle.service.specs.Control.Effects.{Room}
 use Rattle.service.proofs.ControlLaws.Rule.{size_most, room_for}
 
 module _ (ranges : Ranges) (x : OpCode) (p : List ℕ) (g : fit ranges x p ≡ true) where
@@ -31,18 +29,13 @@ module _ (ranges : Ranges) (x : OpCode) (p : List ℕ) (g : fit ranges x p ≡ t
   unfolding fit
   allowed_fit = and_r (eqb (length p) (size x.parameter)) (allowed ranges x.bound p) g
 
-  pub short : (o : ℕ) → op_code o ≡ Known x → length p ≤ 10
+  short : (o : ℕ) → op_code o ≡ Some x → length p ≤ 10
   short o e = rw length_fit (size_most o x e)
 
-  pub room_fit : (o : ℕ) → op_code o ≡ Known x → Room x.act (length p)
+  room_fit : (o : ℕ) → op_code o ≡ Some x → Room x.act (length p)
   room_fit o e = rw length_fit (room_for o x e)
 
--- ---- the result, from its tests, and back
-
-pub judges : (m : Machine) (c : ℕ) (x : OpCode) (p : List ℕ) {s k t f : Bool} → s ≡ supports m.setup.feature x.need → k ≡ controls m.holder c x.act →
-    t ≡ fit m.setup.ranges x p → f ≡ fails m c x.act (number 1 p) → first_of s k t f ≡ judged m c x p
-unfolding judged
-judges m c x p s k t f = λ i. first_of (s i) (k i) (t i) (f i)
+-- ---- what a result says of the tests
 
 -- what must hold for a write that succeeds
 pub record Granted (m : Machine) (c : ℕ) (x : OpCode) (p : List ℕ) : Type 0 where
@@ -72,35 +65,14 @@ judged_so m c x p = elim (tested (supports m.setup.feature x.need)) [
   ]
 ]
 
-pub granted_so : (m : Machine) (c : ℕ) (x : OpCode) (p : List ℕ) → succeeds (judged m c x p) ≡ true → Granted m c x p
+granted_so : (m : Machine) (c : ℕ) (x : OpCode) (p : List ℕ) → succeeds (judged m c x p) ≡ true → Granted m c x p
 granted_so m c x p e = from (judged_so m c x p) e
   where
     from : {r : WriteResult} → Judged m c x p r → succeeds r ≡ true → Granted m c x p
     from (against f) e = absurd (true≢false (sym e ∙ f))
     from (for g) e = g
 
--- ---- what a write gives, by what the table says about its op code and by its result
-
-success_of : (r : WriteResult) → succeeds r ≡ true → r ≡ Success
-success_of Success e = refl
-success_of NotSupported e = absurd (true≢false (sym e))
-success_of InvalidParameter e = absurd (true≢false (sym e))
-success_of OperationFailed e = absurd (true≢false (sym e))
-success_of ControlNotPermitted e = absurd (true≢false (sym e))
-
-module _ (m : Machine) (c o : ℕ) (p : List ℕ) where
-  pub performs_unknown : op_code o ≡ Unknown → performs m c o p ≡ record { response = boxed (response_octets o NotSupported); status = boxed []; machine = m }
-  performs_unknown e = rw e
-
-  module _ (x : OpCode) (e : op_code o ≡ Known x) where
-    pub performs_granted : succeeds (judged m c x p) ≡ true →
-        performs m c o p ≡ record {
-          response = boxed (response_octets o Success ++ followed_by m.setup.speeds x.act (number 1 p));
-          status = boxed (status_octets x.status p);
-          machine = done m c x.act p;
-        }
-    performs_granted s = rw (e, success_of (judged m c x p) s)
-
-    pub performs_denied : succeeds (judged m c x p) ≡ false →
-        performs m c o p ≡ record { response = boxed (response_octets o (judged m c x p)); status = boxed []; machine = m }
-    performs_denied s = rw (e, s)
+-- the parameter of a write that succeeds has ten octets at most, and there is room for it among the settings
+pub granted_fits : (m : Machine) (c o : ℕ) (x : OpCode) (p : List ℕ) → judged m c x p ≡ Success → op_code o ≡ Some x →
+    (length p ≤ 10) × Room x.act (length p)
+granted_fits m c o x p s e = let g = granted_so m c x p (rw s refl) in (short m.setup.ranges x p g.suits o e, room_fit m.setup.ranges x p g.suits o e)

@@ -1,5 +1,5 @@
 -- The calls: "Calls: connect, disconnect, indications on and off, write, confirm." W-201: "A new call feeds the flywheel speed u16".
-use Rattle.std.specs.Prelude.{ℕ, Bool, true, false, cond, not, List, [], eqb, ltb, length, get_or, set, drop}
+use Rattle.std.specs.Prelude.{ℕ, Bool, true, false, cond, not, List, [], eqb, ltb, length, get_or, set, drop, Some, None}
 use Rattle.record.specs.declared.feature.Feature.{Feature}
 use Rattle.record.specs.Answer.{Answer, refused, given, provided}
 use Rattle.record.specs.Feature.{feature_of}
@@ -7,7 +7,6 @@ use Rattle.service.specs.declared.control.Console.{Console}
 use Rattle.service.specs.declared.control.ranges.Ranges.{Ranges}
 use Rattle.service.specs.declared.control.machine.Setup.{Setup}
 use Rattle.service.specs.declared.control.spin_down.TargetSpeeds.{TargetSpeeds}
-use Rattle.service.specs.declared.control.machine.Who.TheVariants.{Nobody, Client}
 use Rattle.service.specs.Control.Machine.{usable, is, someone, without, freed, spinning}
 use Rattle.service.specs.Control.SpinDown.{said_at, run_at}
 use Rattle.service.specs.Control.Effects.{response_after, status_after, machine_after}
@@ -60,14 +59,14 @@ indicates k c on = of_connected k c (accepts (with_client k c (record { connecte
 
 -- "confirm 10, 17, 21"; "21: confirm by a client to whom no response is due"
 unfoldable pub confirms : Console → ℕ → Answer Sent × Console
-confirms k c = of_connected k c (cond (not (is k.awaited c)) (refuses k 21) (accepts (awaiting k Nobody)))
+confirms k c = of_connected k c (cond (not (is k.awaited c)) (refuses k 21) (accepts (awaiting k None)))
 
 -- "Response: 80, op code, result. Each then awaits confirmation; 02 to 05 change nothing else." W-201: "A successful start answers 80 13 01 followed
 -- by a low and a high target speed"
 abbrev pub answers : Console → ℕ → ℕ → List ℕ → Answer Sent × Console
 answers k c o p =
     responds (response_after k.machine c o p) (status_after k.machine c o p)
-    (record { machine = machine_after k.machine c o p; clients = k.clients; awaited = Client c })
+    (record { machine = machine_after k.machine c o p; clients = k.clients; awaited = Some c })
 
 -- "A write is judged in this order: 10, 17, 18, 19, 20", then by its result. "20: a response awaits confirmation", any client's
 unfoldable pub writes : Console → ℕ → List ℕ → Answer Sent × Console

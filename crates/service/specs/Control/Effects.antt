@@ -1,17 +1,15 @@
 -- "Success: 00 gives control; 01 zeroes every setting, stops and frees control; 07 sets running, 08 stopped (1) or paused (2); 02 to 06, 09 to
 -- 12 and 14 store the parameter octets." W-201: "parameter 1 starts, 2 ignores".
-use Rattle.std.specs.Prelude.{ℕ, ◌+◌, ◌≤◌, cond, List, [], ◌∷◌, ◌++◌, eqb, take, drop}
+use Rattle.std.specs.Prelude.{ℕ, ◌+◌, ◌≤◌, cond, List, [], ◌∷◌, ◌++◌, eqb, take, drop, Option, Some, None}
 use Rattle.record.specs.Octets.{number, placed}
 use Rattle.service.specs.declared.control.machine.Machine.{Machine}
 use Rattle.service.specs.declared.control.machine.Mode.{Mode}
 use Rattle.service.specs.declared.control.machine.Mode.TheVariants.{Stopped, Running, Paused}
-use Rattle.service.specs.declared.control.machine.Who.TheVariants.{Client}
 use Rattle.service.specs.declared.control.op_codes.Act.{Act}
 use Rattle.service.specs.declared.control.op_codes.Act.TheVariants.{TakesControl, Resets, Starts, Halts, Stores, SpinsDown}
 use Rattle.service.specs.declared.control.op_codes.Status.{Status}
 use Rattle.service.specs.declared.control.op_codes.Status.TheVariants.{Silent, Octet, Echo}
-use Rattle.service.specs.declared.control.op_codes.Lookup.{Lookup}
-use Rattle.service.specs.declared.control.op_codes.Lookup.TheVariants.{Known, Unknown}
+use Rattle.service.specs.declared.control.op_codes.OpCode.{OpCode}
 use Rattle.service.specs.declared.control.judging.WriteResult.{WriteResult}
 use Rattle.service.specs.declared.control.effects.Performed.{Performed}
 use Rattle.service.specs.Control.OpCodes.{op_code}
@@ -31,7 +29,7 @@ abbrev pub halted_to : ℕ → Mode
 halted_to x = cond (eqb x 1) Stopped Paused
 
 abbrev pub done : Machine → ℕ → Act → List ℕ → Machine
-done m c TakesControl p = held_by m (Client c)
+done m c TakesControl p = held_by m (Some c)
 done m c Resets p = cleared m
 done m c Starts p = going m Running
 done m c Halts p = going m (halted_to (number 1 p))
@@ -45,17 +43,17 @@ status_octets (Octet x) p = x ∷ []
 status_octets (Echo x) p = x ∷ p
 
 -- what follows the three octets of the response to an op code that succeeds with its parameter, its status octets, and the machine after it
-abbrev pub success_followed : TargetSpeeds → Lookup → List ℕ → List ℕ
-success_followed t (Known x) p = followed_by t x.act (number 1 p)
-success_followed t Unknown p = []
+abbrev pub success_followed : TargetSpeeds → Option OpCode → List ℕ → List ℕ
+success_followed t (Some x) p = followed_by t x.act (number 1 p)
+success_followed t None p = []
 
-abbrev pub success_status : Lookup → List ℕ → List ℕ
-success_status (Known x) p = status_octets x.status p
-success_status Unknown p = []
+abbrev pub success_status : Option OpCode → List ℕ → List ℕ
+success_status (Some x) p = status_octets x.status p
+success_status None p = []
 
-abbrev pub success : Machine → ℕ → Lookup → List ℕ → Machine
-success m c (Known x) p = done m c x.act p
-success m c Unknown p = m
+abbrev pub success : Machine → ℕ → Option OpCode → List ℕ → Machine
+success m c (Some x) p = done m c x.act p
+success m c None p = m
 
 -- "02 to 05 change nothing else": the response and the status octets of a client's write of an op code and its parameter, and the machine after it
 module _ (m : Machine) (c o : ℕ) (p : List ℕ) where
@@ -92,9 +90,9 @@ part s n Halts = []
 part s n (Stores at) = take n (drop at s)
 part s n SpinsDown = []
 
-abbrev pub setting_of : List ℕ → Lookup → List ℕ
-setting_of s (Known x) = part s (size x.parameter) x.act
-setting_of s Unknown = []
+abbrev pub setting_of : List ℕ → Option OpCode → List ℕ
+setting_of s (Some x) = part s (size x.parameter) x.act
+setting_of s None = []
 
 unfoldable pub setting : Machine → ℕ → List ℕ
 setting m o = setting_of m.settings (op_code o)

@@ -1,7 +1,7 @@
 -- "unsupported op code, result 02; not the holder (but for 00), 05; wrong length, value outside its range or 08 with neither 1 nor 2, result 03;
 -- then 04 when 00 finds another holder, 07 finds running, 08 with 1 finds stopped, or 08 with 2 finds anything but running; else 01." W-201: "result 03
 -- for neither 1 nor 2, 04 for a start during a run". W-206: "result 03 also for a target off the steps".
-use Rattle.std.specs.Prelude.{ℕ, Bool, true, false, cond, not, ◌&&◌, List, eqb, length}
+use Rattle.std.specs.Prelude.{ℕ, Bool, true, false, cond, not, ◌&&◌, List, eqb, length, Option, Some, None}
 use Rattle.record.specs.declared.feature.Feature.{Feature}
 use Rattle.record.specs.Feature.{has_named}
 use Rattle.record.specs.Octets.{number}
@@ -9,14 +9,9 @@ use Rattle.service.specs.declared.control.ranges.Ranges.{Ranges}
 use Rattle.service.specs.declared.control.machine.Machine.{Machine}
 use Rattle.service.specs.declared.control.machine.Mode.{Mode}
 use Rattle.service.specs.declared.control.machine.Mode.TheVariants.{Stopped, Running, Paused}
-use Rattle.service.specs.declared.control.machine.Who.{Who}
 use Rattle.service.specs.declared.control.op_codes.OpCode.{OpCode}
-use Rattle.service.specs.declared.control.op_codes.Need.{Need}
-use Rattle.service.specs.declared.control.op_codes.Need.TheVariants.{Always, Bit}
 use Rattle.service.specs.declared.control.op_codes.Act.{Act}
 use Rattle.service.specs.declared.control.op_codes.Act.TheVariants.{TakesControl, Resets, Starts, Halts, Stores, SpinsDown}
-use Rattle.service.specs.declared.control.op_codes.Lookup.{Lookup}
-use Rattle.service.specs.declared.control.op_codes.Lookup.TheVariants.{Known, Unknown}
 use Rattle.service.specs.declared.control.judging.WriteResult.{WriteResult}
 use Rattle.service.specs.declared.control.judging.WriteResult.TheVariants.{Success, NotSupported, InvalidParameter, OperationFailed, ControlNotPermitted}
 use Rattle.service.specs.Control.Ranges.{allowed}
@@ -43,9 +38,9 @@ succeeds ControlNotPermitted = false
 
 -- "00, 01, 07, 08 are always supported; 02 to 06 need target bits 0 to 4, 09 to 12 need 5 to 14, 14 needs 16."; W-201: "Op code 13 becomes supported
 -- with target bit 15"
-abbrev pub supports : Feature → Need → Bool
-supports f Always = true
-supports f (Bit b) = has_named f.targets b
+abbrev pub supports : Feature → Option ℕ → Bool
+supports f None = true
+supports f (Some b) = has_named f.targets b
 
 -- whether it is 00
 abbrev pub takes : Act → Bool
@@ -57,7 +52,7 @@ takes (Stores at) = false
 takes SpinsDown = false
 
 -- the opposite of "not the holder (but for 00)"
-abbrev pub controls : Who → ℕ → Act → Bool
+abbrev pub controls : Option ℕ → ℕ → Act → Bool
 controls w c a = cond (takes a) true (is w c)
 
 -- the opposite of "wrong length, value outside its range or 08 with neither 1 nor 2"; W-201, of 13: "result 03 for neither 1 nor 2"; W-206: "result 03
@@ -100,9 +95,9 @@ judged m c x p =
     first_of (supports m.setup.feature x.need) (controls m.holder c x.act) (fit m.setup.ranges x p) (fails m c x.act (number 1 p))
 
 -- "unsupported op code, result 02": this includes one that the table does not have
-abbrev pub result_of : Machine → ℕ → Lookup → List ℕ → WriteResult
-result_of m c (Known x) p = judged m c x p
-result_of m c Unknown p = NotSupported
+abbrev pub result_of : Machine → ℕ → Option OpCode → List ℕ → WriteResult
+result_of m c (Some x) p = judged m c x p
+result_of m c None p = NotSupported
 
 -- the result of a client's write of an op code and its parameter
 abbrev pub result : Machine → ℕ → ℕ → List ℕ → WriteResult

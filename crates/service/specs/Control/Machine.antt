@@ -1,11 +1,9 @@
 -- The machine that op codes act on, and the ways in which they change it.
-use Rattle.std.specs.Prelude.{ℕ, Bool, true, false, cond, ◌&&◌, List, eqb, replicate}
+use Rattle.std.specs.Prelude.{ℕ, Bool, false, cond, ◌&&◌, List, eqb, replicate, Option, Some, None, is_some}
 use Rattle.service.specs.declared.control.machine.Setup.{Setup}
 use Rattle.service.specs.declared.control.machine.Machine.{Machine}
 use Rattle.service.specs.declared.control.machine.Mode.{Mode}
 use Rattle.service.specs.declared.control.machine.Mode.TheVariants.{Stopped}
-use Rattle.service.specs.declared.control.machine.Who.{Who}
-use Rattle.service.specs.declared.control.machine.Who.TheVariants.{Nobody, Client}
 use Rattle.service.specs.declared.control.spin_down.Run.{Run}
 use Rattle.service.specs.declared.control.spin_down.Run.TheVariants.{Off}
 use Rattle.service.specs.Control.Ranges.{are_ranges}
@@ -16,23 +14,22 @@ use Rattle.service.specs.Control.SpinDown.{in_order}
 abbrev pub usable : Setup → Bool
 usable s = are_ranges s.ranges && in_order s.speeds
 
-abbrev pub someone : Who → Bool
-someone Nobody = false
-someone (Client c) = true
+-- nobody, or a client by its number: whether it is a client, whether it is this one, and nobody if it is this one, otherwise as it was
+abbrev pub someone : Option ℕ → Bool
+someone w = is_some w
 
-abbrev pub is : Who → ℕ → Bool
-is Nobody c = false
-is (Client d) c = eqb d c
+abbrev pub is : Option ℕ → ℕ → Bool
+is None c = false
+is (Some d) c = eqb d c
 
--- nobody if it is this client, otherwise as it was
-abbrev pub without : Who → ℕ → Who
-without w c = cond (is w c) Nobody w
+abbrev pub without : Option ℕ → ℕ → Option ℕ
+without w c = cond (is w c) None w
 
 -- "At first it is stopped, .., nobody holds control, and every setting is zero."
 abbrev pub fresh : Setup → Machine
-fresh s = record { setup = s; holder = Nobody; mode = Stopped; settings = replicate 49 0; run = Off }
+fresh s = record { setup = s; holder = None; mode = Stopped; settings = replicate 49 0; run = Off }
 
-abbrev pub held_by : Machine → Who → Machine
+abbrev pub held_by : Machine → Option ℕ → Machine
 held_by m w = record { setup = m.setup; holder = w; mode = m.mode; settings = m.settings; run = m.run }
 
 abbrev pub spinning : Machine → Run → Machine
@@ -50,4 +47,4 @@ storing m s = record { setup = m.setup; holder = m.holder; mode = m.mode; settin
 
 -- "01 zeroes every setting, stops and frees control"; W-201: "Reset .. ends a run"
 abbrev pub cleared : Machine → Machine
-cleared m = spinning (going (storing (held_by m Nobody) (replicate 49 0)) Stopped) Off
+cleared m = spinning (going (storing (held_by m None) (replicate 49 0)) Stopped) Off

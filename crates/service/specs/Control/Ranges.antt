@@ -3,9 +3,7 @@
 use Rattle.std.specs.Prelude.{ℕ, ◌%◌, Bool, true, not, ◌&&◌, List, eqb, ℤ, pos, nat_abs, ◌-ℤ◌}
 use Rattle.std.specs.Int.Signed.{le_z}
 use Rattle.record.specs.Octets.{number, signed}
-use Rattle.service.specs.declared.control.ranges.SpeedRange.{SpeedRange}
-use Rattle.service.specs.declared.control.ranges.SignedRange.{SignedRange}
-use Rattle.service.specs.declared.control.ranges.HeartRateRange.{HeartRateRange}
+use Rattle.service.specs.declared.control.ranges.Range.{Range as Declared}
 use Rattle.service.specs.declared.control.ranges.Ranges.{Ranges}
 use Rattle.service.specs.declared.control.op_codes.Bound.{Bound}
 use Rattle.service.specs.declared.control.op_codes.Bound.TheVariants.{Free, Speed, Inclination, Resistance, Power, HeartRate, OneOrTwo}
@@ -16,14 +14,17 @@ pub record Range : Type 0 where
   pub greatest : ℤ
   pub increment : ℕ
 
-abbrev pub of_speed : SpeedRange → Range
-of_speed r = record { least = pos r.least; greatest = pos r.greatest; increment = r.increment }
+abbrev pub bounds : ℤ → ℤ → ℕ → Range
+bounds a b i = record { least = a; greatest = b; increment = i }
 
-abbrev pub of_signed : SignedRange → Range
-of_signed r = record { least = r.least; greatest = r.greatest; increment = r.increment }
+abbrev pub of_speed : Declared ℕ ℕ → Range
+of_speed r = bounds (pos r.least) (pos r.greatest) r.increment
 
-abbrev pub of_heart_rate : HeartRateRange → Range
-of_heart_rate r = record { least = pos r.least; greatest = pos r.greatest; increment = r.increment }
+abbrev pub of_signed : Declared ℤ ℕ → Range
+of_signed r = bounds r.least r.greatest r.increment
+
+abbrev pub of_heart_rate : Declared ℕ ℕ → Range
+of_heart_rate r = bounds (pos r.least) (pos r.greatest) r.increment
 
 -- "both allowed"
 abbrev pub in_range : ℤ → ℤ → ℤ → Bool

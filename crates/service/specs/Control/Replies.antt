@@ -1,10 +1,9 @@
 -- What a reply of the code means in document 01: "Replies come back by value."
-use Rattle.std.specs.Prelude.{ℕ, ◌≡◌, List, []}
+use Rattle.std.specs.Prelude.{ℕ, ◌≡◌, List, [], Result, Ok, Err}
 use Rattle.record.specs.Answer.{Answer, refused, given}
+use Rattle.record.specs.declared.refusal.Refusal.{Refusal}
 use Rattle.record.specs.Refusal.{number_of}
 use Rattle.service.specs.declared.control.Console.{Console}
-use Rattle.service.specs.declared.control.Outcome.{Outcome}
-use Rattle.service.specs.declared.control.Outcome.TheVariants as outcome
 use Rattle.service.specs.declared.control.Reply.{Reply}
 use Rattle.service.specs.Control.Counted.{boxed, counted}
 
@@ -41,9 +40,9 @@ abbrev pub accepts : Console → Answer Sent × Console
 accepts k = responds [] [] k
 
 -- what an outcome with these octets means
-abbrev pub meant_outcome : Outcome → List ℕ → List ℕ → Answer Sent
-meant_outcome outcome.Done r s = sent r s
-meant_outcome (outcome.Refused x) r s = refused (number_of x)
+abbrev pub meant_outcome : Result (Unit {0}) Refusal → List ℕ → List ℕ → Answer Sent
+meant_outcome (Ok done) r s = sent r s
+meant_outcome (Err x) r s = refused (number_of x)
 
 abbrev pub meant : Reply → Answer Sent × Console
 meant r = (meant_outcome r.outcome (counted r.response) (counted r.status), r.console)

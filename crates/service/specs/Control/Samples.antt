@@ -1,14 +1,12 @@
 -- Lines of the op codes, by computation: document 01's numbers, W-201's and W-206's.
-use Rattle.std.specs.Prelude.{◌≡◌, refl, ℕ, Bool, true, false, List, [], ◌∷◌, ◌++◌, map, ℤ, pos, negsuc, replicate}
+use Rattle.std.specs.Prelude.{◌≡◌, refl, ℕ, Bool, true, false, List, [], ◌∷◌, ◌++◌, map, ℤ, pos, negsuc, replicate, Option, Some, None}
 use Rattle.record.specs.Octets.{spelled, number}
 use Rattle.record.specs.declared.layout.Width.{Width}
 use Rattle.record.specs.declared.layout.Width.TheVariants.{U8, U16, U24, S16}
 use Rattle.service.specs.declared.control.machine.Machine.{Machine}
-use Rattle.service.specs.declared.control.op_codes.Lookup.{Lookup}
-use Rattle.service.specs.declared.control.op_codes.Lookup.TheVariants.{Known, Unknown}
+use Rattle.service.specs.declared.control.op_codes.OpCode.{OpCode}
 use Rattle.service.specs.Control.Parameters.{widths, together}
 use Rattle.service.specs.declared.control.parameters.Parameter.TheVariants.{One}
-use Rattle.service.specs.declared.control.op_codes.Need.TheVariants.{Bit}
 use Rattle.service.specs.declared.control.op_codes.Bound.TheVariants.{OneOrTwo}
 use Rattle.service.specs.declared.control.op_codes.Status.TheVariants.{Silent}
 use Rattle.service.specs.declared.control.op_codes.Act.TheVariants.{SpinsDown}
@@ -23,9 +21,9 @@ use Rattle.service.specs.Control.SpinDown.{on, said_at, run_at}
 use Rattle.service.specs.Control.Console.{closed}
 use Rattle.service.specs.Control.Effects.{response_octets, success_followed, success_status, setting}
 
-abbrev parameter : Lookup → List Width
-parameter (Known x) = widths x.parameter
-parameter Unknown = []
+abbrev parameter : Option OpCode → List Width
+parameter (Some x) = widths x.parameter
+parameter None = []
 
 -- "02 speed u16", "0C distance u24", "10 five, one u16 for each zone", "11 wind s16, grade s16, rolling u8, drag u8"
 pub parameters :
@@ -52,11 +50,11 @@ statuses = (refl, refl, refl, refl, refl, refl, refl)
 
 -- W-201: "Op code 13 becomes supported with target bit 15: parameter 1 starts, 2 ignores.", "a start or an ignore gives none"; 15 is not known
 pub spin_down :
-    (op_code 0x13 ≡ Known (known (One U8) (Bit 15) OneOrTwo Silent SpinsDown)) ×
+    (op_code 0x13 ≡ Some (known (One U8) (Some 15) OneOrTwo Silent SpinsDown)) ×
     (parameter (op_code 0x13) ≡ U8 ∷ []) ×
     (success_status (op_code 0x13) (1 ∷ []) ≡ []) ×
     (success_status (op_code 0x13) (2 ∷ []) ≡ []) ×
-    (op_code 0x15 ≡ Unknown)
+    (op_code 0x15 ≡ None)
 unfolding op_code
 spin_down = (refl, refl, refl, refl, refl)
 

@@ -8,8 +8,8 @@ ghost use Rattle.service.specs.Control.Effects;
 
 use crate::control::counted::{Counted, kept, none, one, three, three_and_words, with_parameter};
 use crate::control::judging::{WriteResult, judged};
-use crate::control::machine::{Machine, Mode, Who};
-use crate::control::op_codes::{Act, Lookup, OpCode, Status, op_code};
+use crate::control::machine::{Machine, Mode};
+use crate::control::op_codes::{Act, OpCode, Status, op_code};
 use crate::control::spin_down::{TargetSpeeds, spun, starts_run};
 use record::octets::u8_at;
 
@@ -55,12 +55,11 @@ fn done(machine: Machine, client: u8, act: Act, p: &[u8]) -> Machine
     ensures { result ≡ Effects.done machine client act p.now }
 {
     let x = u8_at(p, 0);
-    let mode = halted(x);
     match act {
-        Act::TakesControl => machine.held(Who::Client(client)),
+        Act::TakesControl => machine.held(Some(client)),
         Act::Resets => machine.reset(),
         Act::Starts => machine.going(Mode::Running),
-        Act::Halts => machine.going(mode),
+        Act::Halts => machine.going(halted(x)),
         Act::Stores(place) => machine.storing(place, p),
         Act::SpinsDown => machine.spinning(spun(x)),
     }
@@ -94,16 +93,11 @@ fn granted(machine: Machine, client: u8, op: u8, code: OpCode, p: &[u8]) -> Perf
     requires { (length p.now ≤ 10) × Room code.act (length p.now) }
     ensures { result ≡ record { response = boxed (response_octets op WriteResult.Success ++ followed_by machine.setup.speeds code.act (number 1 p.now)); status = boxed (status_octets code.status p.now); machine = Effects.done machine client code.act p.now } }
 {
-    let status = code.status;
-    let act = code.act;
     let x = u8_at(p, 0);
-    let response = success(machine.setup.speeds, op, act, x);
-    let said = says(status, p);
-    let after = done(machine, client, act, p);
     Performed {
-        response,
-        status: said,
-        machine: after,
+        response: success(machine.setup.speeds, op, code.act, x),
+        status: says(code.status, p),
+        machine: done(machine, client, code.act, p),
     }
 }
 
@@ -111,16 +105,14 @@ fn granted(machine: Machine, client: u8, op: u8, code: OpCode, p: &[u8]) -> Perf
 pub(crate) fn perform(machine: Machine, client: u8, op: u8, p: &[u8]) -> Performed
     ensures { result ≡ performs machine client op p.now }
 {
-    match op_code(op) {
-        Lookup::Known(code) => {
-            let result = judged(machine, client, code, p);
-            if result.is_success() {
-                return granted(machine, client, op, code, p);
-            }
-            failed(machine, op, result)
-        }
-        Lookup::Unknown => failed(machine, op, WriteResult::NotSupported),
+    let Some(code) = op_code(op) else {
+        return failed(machine, op, WriteResult::NotSupported);
+    };
+    let res = judged(machine, client, code, p);
+    if res == WriteResult::Success {
+        return granted(machine, client, op, code, p);
     }
+    failed(machine, op, res)
 }
 
 // The octets of a setting, from the index where an act stores it.
@@ -128,28 +120,19 @@ fn part(settings: [u8; 49], count: u8, act: Act) -> Counted
     requires { (count ≤ 10) × Room act count }
     ensures { result ≡ boxed (Effects.part settings count act) }
 {
-    let nothing = none();
     match act {
-        Act::TakesControl => nothing,
-        Act::Resets => nothing,
-        Act::Starts => nothing,
-        Act::Halts => nothing,
         Act::Stores(place) => kept(settings, place, count),
-        Act::SpinsDown => nothing,
+        _ => none(),
     }
 }
 
 // The setting that an op code stores, 0 at first; no octets for an op code that stores none.
+#[tactic(auto, using(crate::proofs::ControlLaws::Rule::size_most, crate::proofs::ControlLaws::Rule::room_for), unfolding(crate::specs::Control::Effects::setting))]
 pub(crate) fn setting(machine: Machine, op: u8) -> Counted
     ensures { result ≡ boxed (Effects.setting machine op) }
 {
-    let settings = machine.settings;
     match op_code(op) {
-        Lookup::Known(code) => {
-            let parameter = code.parameter;
-            let act = code.act;
-            part(settings, parameter.length(), act)
-        }
-        Lookup::Unknown => none(),
+        Some(code) => part(machine.settings, code.parameter.length(), code.act),
+        None => none(),
     }
 }

@@ -1,22 +1,15 @@
 // The machine that op codes act on: what it was opened with, who holds control, its mode, its settings, and its run of spin down.
 ghost use Rattle.std.specs.Prelude.{◌≡◌, ◌+◌, ◌≤◌, length};
 ghost use Rattle.record.specs.Octets.{placed};
-ghost use Rattle.service.specs.Control.Machine.{usable, someone, held_by, cleared};
+ghost use Rattle.service.specs.Control.Machine.{usable, held_by, cleared};
 ghost use Rattle.service.specs.Control.Machine as MachineSpecs;
 
 use crate::control::counted::put;
-use crate::control::ranges::{Ranges, are_ranges};
+use crate::control::ranges::Ranges;
 use crate::control::spin_down::{Run, TargetSpeeds};
 use record::feature::Feature;
 
-// Nobody, or a client by its number.
-#[derive(Clone, Copy)]
-pub enum Who {
-    Nobody,
-    Client(u8),
-}
-
-#[derive(Clone, Copy)]
+#[derive(Clone, Copy, PartialEq, Eq, Debug)]
 pub enum Mode {
     Stopped,
     Running,
@@ -31,11 +24,11 @@ pub struct Setup {
     pub speeds: TargetSpeeds,
 }
 
-// What op codes act on. The sixteen settings follow one another in the order of op codes, in 49 octets.
+// What op codes act on. The holder of control is a client's number, or none. The sixteen settings follow one another in the order of op codes, in 49 octets.
 #[derive(Clone, Copy)]
 pub struct Machine {
     pub setup: Setup,
-    pub holder: Who,
+    pub holder: Option<u8>,
     pub mode: Mode,
     pub settings: [u8; 49],
     pub run: Run,
@@ -46,43 +39,15 @@ impl Setup {
     pub(crate) fn is_usable(self) -> bool
         ensures { result ≡ usable self }
     {
-        let speeds = self.speeds;
-        if are_ranges(self.ranges) {
-            return speeds.are_in_order();
-        }
-        false
+        self.ranges.are_ranges() && self.speeds.are_in_order()
     }
 }
 
-impl Who {
-    // Whether it is this client.
-    pub(crate) fn is(self, client: u8) -> bool
-        ensures { result ≡ MachineSpecs.is self client }
-    {
-        match self {
-            Who::Nobody => false,
-            Who::Client(d) => d == client,
-        }
-    }
-
-    pub(crate) fn is_someone(self) -> bool
-        ensures { result ≡ someone self }
-    {
-        match self {
-            Who::Nobody => false,
-            Who::Client(_) => true,
-        }
-    }
-
-    // Nobody if it is this client, otherwise as it was.
-    pub(crate) fn without(self, client: u8) -> Who
-        ensures { result ≡ MachineSpecs.without self client }
-    {
-        if self.is(client) {
-            return Who::Nobody;
-        }
-        self
-    }
+// Nobody if it is this client, otherwise as it was.
+pub(crate) fn without(who: Option<u8>, client: u8) -> Option<u8>
+    ensures { result ≡ MachineSpecs.without who client }
+{
+    who.filter(|held| *held != client)
 }
 
 impl Machine {
@@ -92,7 +57,7 @@ impl Machine {
     {
         Machine {
             setup,
-            holder: Who::Nobody,
+            holder: None,
             mode: Mode::Stopped,
             settings: [0u8; 49],
             run: Run::Off,
@@ -100,67 +65,34 @@ impl Machine {
     }
 
     // Gives control to a client, or to nobody.
-    pub(crate) fn held(self, holder: Who) -> Machine
+    pub(crate) fn held(self, holder: Option<u8>) -> Machine
         ensures { result ≡ held_by self holder }
     {
-        let setup = self.setup;
-        let mode = self.mode;
-        let settings = self.settings;
-        let run = self.run;
-        Machine {
-            setup,
-            holder,
-            mode,
-            settings,
-            run,
-        }
+        Machine { holder, ..self }
     }
 
     // The run of spin down starts, goes on or is over.
     pub(crate) fn spinning(self, run: Run) -> Machine
         ensures { result ≡ MachineSpecs.spinning self run }
     {
-        let setup = self.setup;
-        let holder = self.holder;
-        let mode = self.mode;
-        let settings = self.settings;
-        Machine {
-            setup,
-            holder,
-            mode,
-            settings,
-            run,
-        }
+        Machine { run, ..self }
     }
 
     // A client leaves: "Disconnect frees control held by that client", and "disconnect of the holder .. ends a run".
     pub(crate) fn freed(self, client: u8) -> Machine
         ensures { result ≡ MachineSpecs.freed self client }
     {
-        let held = self.holder;
-        let holder = held.without(client);
-        let free = self.held(holder);
-        if held.is(client) {
-            return free.spinning(Run::Off);
+        if self.holder == Some(client) {
+            return self.held(None).spinning(Run::Off);
         }
-        free
+        self
     }
 
     // The machine stops, runs or pauses.
     pub(crate) fn going(self, mode: Mode) -> Machine
         ensures { result ≡ MachineSpecs.going self mode }
     {
-        let setup = self.setup;
-        let holder = self.holder;
-        let settings = self.settings;
-        let run = self.run;
-        Machine {
-            setup,
-            holder,
-            mode,
-            settings,
-            run,
-        }
+        Machine { mode, ..self }
     }
 
     // Stores a setting, from an index on.

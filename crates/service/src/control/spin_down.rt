@@ -7,14 +7,14 @@ use crate::control::counted::{Counted, none, two};
 use crate::control::op_codes::Act;
 
 // The two target speeds of a run, "fixed when the machine is opened".
-#[derive(Clone, Copy)]
+#[derive(Clone, Copy, Default)]
 pub struct TargetSpeeds {
     pub low: u16,
     pub high: u16,
 }
 
 // No run, a run that has said nothing yet, or one that has said 4, stop pedalling.
-#[derive(Clone, Copy)]
+#[derive(Clone, Copy, PartialEq, Eq, Debug)]
 pub enum Run {
     Off,
     Quiet,
@@ -41,15 +41,7 @@ impl TargetSpeeds {
 pub(crate) fn starts_run(act: Act, x: u8) -> bool
     ensures { result ≡ starts_run act x }
 {
-    let one = x == 1;
-    match act {
-        Act::TakesControl => false,
-        Act::Resets => false,
-        Act::Starts => false,
-        Act::Halts => false,
-        Act::Stores(_) => false,
-        Act::SpinsDown => one,
-    }
+    act == Act::SpinsDown && x == 1
 }
 
 // The run after a parameter of 13: "parameter 1 starts, 2 ignores".

@@ -1,16 +1,8 @@
--- `disconnect` meets its contract: at each return the tests that led there say which case holds. Assumes nothing.
-use borrow.Author.Tests.{lt-ltb, le-ltb}
+-- `disconnect` meets its contract: where the client is not connected, the call is refused as that client is. Assumes nothing.
 use Rattle.service.specs.Control.Calls.{disconnects}
+use Rattle.service.proofs.ControlLaws.Answers.{not_connected}
 use Rattle.service.proofs.control.Console.disconnect.Goals as goal
 
-pub returns-then-client-gt3 : goal.returns-then-client-gt3
+pub returns-in-Err : goal.returns-in-Err
 unfolding disconnects
-returns-then-client-gt3 c = rw (lt-ltb _ _ c.if-client-gt3.true) c.refused.ensures
-
-pub returns-then-not-was : goal.returns-then-not-was
-unfolding disconnects
-returns-then-not-was c = rw (le-ltb _ _ c.if-client-gt3.false, (rw c.client_at-was.ensures at c.if-not-was.true)) c.refused-then-not-was.ensures
-
-pub returns : goal.returns
-unfolding disconnects
-returns c = rw (le-ltb _ _ c.if-client-gt3.false, (rw c.client_at-was.ensures at c.if-not-was.false), ← c.freed-machine.ensures, ← c.without-awaited.ensures) (rw c.with-left.ensures at c.accepted.ensures)
+returns-in-Err c = rw (not_connected c.args.self c.args.client c.in-Err.why _ c.in-Err.ensures) c.refused.ensures

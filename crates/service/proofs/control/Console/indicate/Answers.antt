@@ -1,16 +1,8 @@
--- `indicate` meets its contract: at each return the tests that led there say which case holds. Assumes nothing.
-use borrow.Author.Tests.{lt-ltb, le-ltb}
+-- `indicate` meets its contract: where the client is not connected, the call is refused as that client is. Assumes nothing.
 use Rattle.service.specs.Control.Calls.{indicates}
+use Rattle.service.proofs.ControlLaws.Answers.{not_connected}
 use Rattle.service.proofs.control.Console.indicate.Goals as goal
 
-pub returns-then-client-gt3 : goal.returns-then-client-gt3
+pub returns-in-Err : goal.returns-in-Err
 unfolding indicates
-returns-then-client-gt3 c = rw (lt-ltb _ _ c.if-client-gt3.true) c.refused.ensures
-
-pub returns-then-not-was : goal.returns-then-not-was
-unfolding indicates
-returns-then-not-was c = rw (le-ltb _ _ c.if-client-gt3.false, (rw c.client_at-was.ensures at c.if-not-was.true)) c.refused-then-not-was.ensures
-
-pub returns : goal.returns
-unfolding indicates
-returns c = rw (le-ltb _ _ c.if-client-gt3.false, (rw c.client_at-was.ensures at c.if-not-was.false), ← c.with.ensures) c.accepted.ensures
+returns-in-Err c = rw (not_connected c.args.self c.args.client c.in-Err.why _ c.in-Err.ensures) c.refused.ensures
