@@ -10,9 +10,10 @@ use contract.Lifetimes.{Lfts}
 use denote.Triple.Clauses.{AtExit}
 use borrow.Author.Tests.{le-leb}
 use Rattle.record.specs.declared.record.Record.{Record}
-use Rattle.record.specs.declared.split.SplitAnswer.{SplitAnswer}
-use Rattle.record.specs.Answer.{given}
-use Rattle.record.specs.Split.{meant}
+use Rattle.std.specs.Prelude.{Result}
+use Rattle.record.specs.declared.refusal.Refusal.{Refusal}
+use Rattle.record.specs.declared.split.Extent.{Extent}
+use Rattle.record.specs.Answer.{given, meant}
 use Rattle.record.proofs.Tests.{eqb_true}
 use Rattle.record.proofs.split.split.Kinds as kinds
 use Rattle.record.proofs.split.split.Reads as split
@@ -32,7 +33,7 @@ use Rattle.demands.proofs.Dropping.{Ready, ready_open, ready_fixed}
 use Rattle.demands.proofs.Taken.{Sent}
 
 -- any reply, and any state at exit, for octets that are lent at any address
-module _ (κs : Lfts 1) (lend : List ℕ → (ℕ × ℕ) × GName) (reply : Record → ℕ → ℕ → List ℕ → SplitAnswer)
+module _ (κs : Lfts 1) (lend : List ℕ → (ℕ × ℕ) × GName) (reply : Record → ℕ → ℕ → List ℕ → Result Extent Refusal)
     (exit : Record → ℕ → ℕ → List ℕ → AtExit (ended_of 1 kinds.ps kinds.r) κs) where
   abbrev Meets : Type 0
   Meets =

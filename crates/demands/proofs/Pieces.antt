@@ -11,7 +11,9 @@ use lib.ListN.{length, get_or, take}
 use borrow.Author.Tests.{lt-ltb, le-leb, leb-true}
 use Rattle.record.specs.declared.record.Record.{Record}
 use Rattle.record.specs.declared.split.Extent.{Extent}
-use Rattle.record.specs.Answer.{Answer, given, after}
+use Rattle.std.specs.Prelude.{Result, Ok, IsOk}
+use Rattle.record.specs.declared.refusal.Refusal.{Refusal}
+use Rattle.record.specs.Answer.{Answer, given, after, meant}
 use Rattle.record.specs.Groups.{known, flags_octets, set_length}
 use Rattle.record.specs.Octets.{over}
 use Rattle.record.specs.Record.{wire, well_formed, Formed}
@@ -19,6 +21,7 @@ use Rattle.record.specs.Split.{payload_known, set_at, sets_of, part_octets, exte
 use Rattle.service.specs.declared.collector.Collection.{Collection}
 use Rattle.service.specs.declared.collector.Told.{Told}
 use Rattle.service.specs.Collector.{Said, collect, empty}
+use Rattle.record.proofs.Once.{meant_once}
 use Rattle.record.proofs.Tests.{and_l, and_r}
 use Rattle.record.proofs.Parts.{octets_length}
 use Rattle.record.proofs.Again.{front, facts, record_parts}
@@ -100,6 +103,20 @@ module _ (r : Record) (w : well_formed r ≡ true) (payload : ℕ) (p : payload_
   piece_is i h out l =
       ap (λ (a : Answer Extent). take (length_of a) (after a (over out (part_octets r payload i)) out)) (answered i (length out) h l)
       ∙ front out (part_octets r payload i)
+
+  -- the code's answer for a part, when 512 octets are lent: it is Ok, and its length is that of the part, which the lent octets begin with
+  module _ (i : ℕ) (h : i < count) (x : Result Extent Refusal) (e : meant x ≡ split_of r payload i 512) where
+    pub split_ok : IsOk x
+    split_ok = rw (meant_once x (Ok (record { length = length (part_octets r payload i); parts = count })) (e ∙ answered i 512 h (omega arith))) refl
+
+    pub split_length : (y : Extent) → x ≡ Ok y → y.length ≡ length_of (split_of r payload i 512)
+    split_length y q = ap (λ (z : Result Extent Refusal). length_of (meant z)) (sym q) ∙ ap length_of e
+
+    pub split_fits : (y : Extent) (out : List ℕ) → x ≡ Ok y → 512 ≤ length out → y.length ≤ length out
+    split_fits y out q l = omega (arith, split_length y q, part_short i h, ap length_of (answered i 512 h (omega arith)))
+
+    pub split_piece : (y : Extent) → x ≡ Ok y → take y.length (lent_after r payload i buffer) ≡ part_octets r payload i
+    split_piece y q = ap (λ (n : ℕ). take n (lent_after r payload i buffer)) (split_length y q) ∙ piece_is i h buffer (omega arith)
 
 module _ (r : Record) (w : Good r) (payload : ℕ) (p : payload_known payload ≡ true) where
   pub low : 20 ≤ payload

@@ -1,18 +1,10 @@
 -- Demand 2 as running code: what comes back when a record is split and collected.
 use Rattle.std.specs.Prelude.{ℕ}
 use Rattle.record.specs.declared.record.Record.{Record}
-use Rattle.record.specs.Answer.{Answer, refused, given, provided}
+use Rattle.record.specs.Answer.{Answer, given, provided}
 use Rattle.record.specs.Groups.{known}
 use Rattle.record.specs.Record.{well_formed}
-use Rattle.record.specs.Refusal.{number_of}
 use Rattle.record.specs.Split.{payload_known}
-use Rattle.demands.specs.declared.Back.{Back}
-use Rattle.demands.specs.declared.Back.TheVariants as answers
-
--- what the code's answer means: the record that was collected, or a refusal's number
-abbrev pub meant_back : Back → Answer Record
-meant_back (answers.Record r) = given r
-meant_back (answers.Refused x) = refused (number_of x)
 
 -- "Any well-formed record, split at any payload from 20 to 512 .. comes back equal"; a record that is not well formed, or another payload, is
 -- refused as by the splitter: 11, 12, 13

@@ -7,8 +7,8 @@ ghost use Rattle.service.specs.Collector.{meant, meant_opening, refused, collect
 ghost use Rattle.service.specs.Collector;
 
 use record::groups::{BITS, has, is_known, listed};
-use record::notification::{Part, PartAnswer, part_of, read};
-use record::numbers::record_of;
+use record::notification::{Part, part_of, read};
+use record::numbers::{Wire, record_of};
 use record::record::Record;
 use record::refusal::Refusal;
 
@@ -192,7 +192,7 @@ fn join(
 {
     let dropped = drops(told, held, part.groups);
     let joined = left(dropped, held, numbers) | part.groups;
-    read(kind, notification, numbers);
+    let _ = read(kind, notification, numbers);
     if !part.last {
         return Taken {
             answer: Collected::Waiting { dropped },
@@ -202,7 +202,12 @@ fn join(
     if incomplete(told, joined) {
         return refuse(Refusal::Incomplete, held, numbers);
     }
-    let record = record_of(kind, joined, part.direction, numbers);
+    let record = record_of(&Wire {
+        kind,
+        groups: joined,
+        direction: part.direction,
+        numbers: *numbers,
+    });
     *numbers = [0u32; 31];
     Taken {
         answer: Collected::Record { record, dropped },
@@ -216,8 +221,8 @@ fn take(kind: u8, told: Told, held: u32, notification: &[u8], numbers: &mut [u32
     ensures numbers_after { collection kind told result.held numbers.new ≡ (Collector.collect (collection kind told held numbers.old) notification.now).next }
 {
     match part_of(kind, notification) {
-        PartAnswer::Refused(refusal) => refuse(refusal, held, numbers),
-        PartAnswer::Part(part) => {
+        Err(refusal) => refuse(refusal, held, numbers),
+        Ok(part) => {
             if outside(told, part.groups) {
                 return refuse(Refusal::OutsideToldSet, held, numbers);
             }

@@ -23,7 +23,7 @@ use crate::control::effects::{perform, setting};
 use crate::control::machine::{Machine, Setup, without};
 use crate::control::ranges::Ranges;
 use crate::control::spin_down::{TargetSpeeds, feed};
-use record::feature::{Feature, FeatureAnswer};
+use record::feature::Feature;
 use record::refusal::Refusal;
 
 // Whether a client is connected, and whether its indications are on.
@@ -110,8 +110,8 @@ impl Console {
         ensures { Says result (opens (opening feature.now ranges speeds)) }
     {
         match Feature::from_octets(feature) {
-            FeatureAnswer::Refused(why) => refused(closed(), why),
-            FeatureAnswer::Feature(value) => {
+            Err(why) => refused(closed(), why),
+            Ok(value) => {
                 let setup = Setup {
                     feature: value,
                     ranges,

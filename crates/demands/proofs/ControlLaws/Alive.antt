@@ -1,4 +1,5 @@
 -- No console is ever stuck: some call of each client succeeds, and each client can be brought to write again.
+use Rattle.std.specs.Prelude.{Option, None, Some}
 use Prim.Native.Nat.{ℕ, ◌≤◌, ◌<◌}
 use mathlib.Core.Path.{◌≡◌, refl, sym, ap, ◌∙◌}
 use mathlib.Core.Bool.{true, false, true≢false}
@@ -10,8 +11,6 @@ use Rattle.record.specs.Answer.{given}
 use Rattle.record.proofs.Tests.{passed, failed, tested, eqb_same, ltb_false, ltb_le, test_holds}
 use Rattle.service.specs.declared.control.Client.{Client as Link}
 use Rattle.service.specs.declared.control.Console.{Console}
-use Rattle.service.specs.declared.control.machine.Who.{Who}
-use Rattle.service.specs.declared.control.machine.Who.TheVariants.{Nobody, Client}
 use Rattle.service.specs.Control.Machine.{is, someone, without}
 use Rattle.service.specs.Control.Console.{absent, is_connected, is_indicating}
 use Rattle.service.specs.Control.Replies.{refusal_of}
@@ -31,7 +30,7 @@ disconnects_well : (k : Console) (c : ℕ) → c ≤ 3 → is_connected k c ≡ 
 unfolding disconnects
 disconnects_well k c h e = rw (ltb_false 3 c h, e)
 
-pub some_call_succeeds : (k : Console) (c : ℕ) → c ≤ 3 → (q : Call) × (by q ≡ Client c) × (refusal_of (step k q).0 ≡ 0)
+pub some_call_succeeds : (k : Console) (c : ℕ) → c ≤ 3 → (q : Call) × (by q ≡ Some c) × (refusal_of (step k q).0 ≡ 0)
 some_call_succeeds k c h = elim (tested (is_connected k c)) [
   | passed e ↦ (disconnect c, refl, disconnects_well k c h e)
   | failed e ↦ (connect c, refl, connects_well k c h e)
@@ -46,13 +45,13 @@ writes_well k c o p h = rw (ltb_false 3 c h.small, h.joined, eqb-suc-zero (lengt
 -- ---- disconnect, connect, indications on
 
 -- a client that is disconnected
-record Away (k : Console) (c : ℕ) (w : Who) : Type 0 where
+record Away (k : Console) (c : ℕ) (w : Option ℕ) : Type 0 where
   four : length k.clients ≡ 4
   away : is_connected k c ≡ false
   waits : k.awaited ≡ w
 
 -- and one that is back, with indications on
-record Back (k : Console) (c : ℕ) (w : Who) : Type 0 where
+record Back (k : Console) (c : ℕ) (w : Option ℕ) : Type 0 where
   joined : is_connected k c ≡ true
   shown : is_indicating k c ≡ true
   waits : k.awaited ≡ w
@@ -75,10 +74,10 @@ module _ (k : Console) (c : ℕ) (h : c ≤ 3) where
         })
   ]
     where
-      another : (w : Who) → Present k.clients w → is_connected k c ≡ false → without w c ≡ w
-      another w p e = without_other w c (λ (f : w ≡ Client c). true≢false (sym (rw f at p) ∙ e))
+      another : (w : Option ℕ) → Present k.clients w → is_connected k c ≡ false → without w c ≡ w
+      another w p e = without_other w c (λ (f : w ≡ Some c). true≢false (sym (rw f at p) ∙ e))
 
-  comes : {w : Who} → Away k c w → Back (indicates (connects k c).1 c true).1 c w
+  comes : {w : Option ℕ} → Away k c w → Back (indicates (connects k c).1 c true).1 c w
   unfolding connects indicates
   comes a =
       let x : Link = record { connected = true; indicating = false } in
@@ -112,7 +111,7 @@ module _ (k : Console) (s : Sound k) (c : ℕ) (h : c ≤ 3) (past : List Event)
 
 -- ---- and another client's response can be confirmed
 
-present_small : (l : List Link) (d : ℕ) → length l ≡ 4 → Present l (Client d) → d ≤ 3
+present_small : (l : List Link) (d : ℕ) → length l ≡ 4 → Present l (Some d) → d ≤ 3
 present_small l d n e = elim (tested (ltb 3 d)) [
   | passed f ↦
       let m : 3 < d = ltb→lt 3 d (test_holds f) in
@@ -120,8 +119,8 @@ present_small l d n e = elim (tested (ltb 3 d)) [
   | failed f ↦ ltb_le 3 d f
 ]
 
-pub confirms_well : (k : Console) → Sound k → (d : ℕ) → k.awaited ≡ Client d →
-    (refusal_of (confirms k d).0 ≡ 0) × ((confirms k d).1.awaited ≡ Nobody)
+pub confirms_well : (k : Console) → Sound k → (d : ℕ) → k.awaited ≡ Some d →
+    (refusal_of (confirms k d).0 ≡ 0) × ((confirms k d).1.awaited ≡ None)
 unfolding confirms
 confirms_well k s d e =
     let p : is_connected k d ≡ true = (let q : Present k.clients k.awaited = s.links.awaited_connected in rw e at q) in
@@ -132,9 +131,9 @@ confirms_well k s d e =
 pub never_stuck : (k : Console) → Sound k → (c : ℕ) → c ≤ 3 → (qs : List Call) × Heard (run service k [] qs).1 c
 never_stuck k s c h = from k.awaited refl
   where
-    from : (w : Who) → k.awaited ≡ w → (qs : List Call) × Heard (run service k [] qs).1 c
-    from Nobody e = (back c, back_again k s c h [] (rw e))
-    from (Client d) e = (
+    from : (w : Option ℕ) → k.awaited ≡ w → (qs : List Call) × Heard (run service k [] qs).1 c
+    from None e = (back c, back_again k s c h [] (rw e))
+    from (Some d) e = (
       confirm d ∷ back c,
       unfold run in back_again (confirms k d).1 (sound_step k (confirm d) s) c h (event (confirm d) (confirms k d).0 ∷ [])
           (rw (confirms_well k s d e).1),

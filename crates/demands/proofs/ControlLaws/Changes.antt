@@ -1,4 +1,5 @@
 -- What each call leaves as it was.
+use Rattle.std.specs.Prelude.{Option, None, Some}
 use Prim.Native.Nat.{ℕ, ◌≤◌}
 use mathlib.Core.Path.{◌≡◌, refl, sym, ap, ◌∙◌}
 use mathlib.Core.Logic.{◌⊎◌, inl, inr}
@@ -11,8 +12,6 @@ use Rattle.record.specs.Octets.{number}
 use Rattle.record.proofs.Tests.{passed, failed, tested, eqb_eq}
 use Rattle.service.specs.declared.control.Console.{Console}
 use Rattle.service.specs.declared.control.machine.Machine.{Machine}
-use Rattle.service.specs.declared.control.machine.Who.{Who}
-use Rattle.service.specs.declared.control.machine.Who.TheVariants.{Nobody, Client}
 use Rattle.service.specs.declared.control.op_codes.Act.{Act}
 use Rattle.service.specs.declared.control.op_codes.Act.TheVariants.{TakesControl, Resets, Starts, Halts, Stores, SpinsDown}
 use Rattle.service.specs.Control.Machine.{is, someone, without}
@@ -27,25 +26,25 @@ use Rattle.demands.specs.Control.Laws.{by, result_in, Unchanged, ByAnother, Spar
 use Rattle.demands.proofs.ControlLaws.Kept.{opened_first, run_keeps}
 use Rattle.demands.proofs.ControlLaws.Steps.{Stepped, refusal, connected, gone, indicated, confirmed, denied, granted, fed, steps}
 
-pub is_client : (w : Who) (c : ℕ) → is w c ≡ true → w ≡ Client c
-is_client Nobody c e = absurd (true≢false (sym e))
-is_client (Client d) c e = ap Client (eqb_eq d c e)
+pub is_client : (w : Option ℕ) (c : ℕ) → is w c ≡ true → w ≡ Some c
+is_client None c e = absurd (true≢false (sym e))
+is_client (Some d) c e = ap Some (eqb_eq d c e)
 
-pub without_other : (w : Who) (c : ℕ) → (w ≡ Client c → ⊥) → without w c ≡ w
+pub without_other : (w : Option ℕ) (c : ℕ) → (w ≡ Some c → ⊥) → without w c ≡ w
 without_other w c n = elim (tested (is w c)) [
   | passed e ↦ absurd (n (is_client w c e))
   | failed e ↦ rw e
 ]
 
-is_other : (w : Who) (c : ℕ) → (w ≡ Client c → ⊥) → is w c ≡ false
+is_other : (w : Option ℕ) (c : ℕ) → (w ≡ Some c → ⊥) → is w c ≡ false
 is_other w c n = elim (tested (is w c)) [
   | passed e ↦ absurd (n (is_client w c e))
   | failed e ↦ e
 ]
 
-nobody_left : (w : Who) → someone w ≡ false → w ≡ Nobody
-nobody_left Nobody e = refl
-nobody_left (Client d) e = absurd (true≢false e)
+nobody_left : (w : Option ℕ) → someone w ≡ false → w ≡ None
+nobody_left None e = refl
+nobody_left (Some d) e = absurd (true≢false e)
 
 -- ---- refusals
 refused_or_not : (k : Console) {q : Call} {x : Answer Sent × Console} → Stepped k q x → (refusal_of x.0 ≡ 0) ⊎ Unchanged k x
@@ -74,18 +73,18 @@ only_awaits k (granted c o p i x e g) h = absurd (omega arith)
 only_awaits k (fed v) h = absurd (omega arith)
 
 pub results_02_to_05 : (k : Console) (c : ℕ) (s : List ℕ) → 2 ≤ result_in (writes k c s).0 →
-    (status_of (writes k c s).0 ≡ []) × ((writes k c s).1 ≡ awaiting k (Client c))
+    (status_of (writes k c s).0 ≡ []) × ((writes k c s).1 ≡ awaiting k (Some c))
 results_02_to_05 k c s h = only_awaits k (steps k (write c s)) h
 
 -- ---- a call that the holder did not make
-module _ (m : Machine) (w : Who) where
+module _ (m : Machine) (w : Option ℕ) where
   spared : {n : Machine} → n.settings ≡ m.settings → n.mode ≡ m.mode → n.setup ≡ m.setup → n.holder ≡ m.holder →
-      (n.run ≡ m.run) ⊎ (w ≡ Nobody) → Spared m w n
+      (n.run ≡ m.run) ⊎ (w ≡ None) → Spared m w n
   spared a b d e r = record { same_settings = a; same_mode = b; same_setup = d; same_run = r; holder_or_new = inl e }
 
-spared_done : (m : Machine) (c : ℕ) → (m.holder ≡ Client c → ⊥) → (p : List ℕ) (a : Act) → controls m.holder c a ≡ true →
+spared_done : (m : Machine) (c : ℕ) → (m.holder ≡ Some c → ⊥) → (p : List ℕ) (a : Act) → controls m.holder c a ≡ true →
     fails m c a (number 1 p) ≡ false →
-    Spared m (Client c) (done m c a p)
+    Spared m (Some c) (done m c a p)
 spared_done m c n p TakesControl e f = record {
   same_settings = refl;
   same_mode = refl;
@@ -102,15 +101,15 @@ spared_done m c n p SpinsDown e f = absurd (n (is_client m.holder c e))
 another_stepped : (k : Console) {q : Call} {x : Answer Sent × Console} → Stepped k q x → ByAnother k q →
     Spared k.machine (by q) x.1.machine
 another_stepped k {q} (refusal n l g) h = spared k.machine (by q) refl refl refl refl (inl refl)
-another_stepped k (connected c i e) h = spared k.machine (Client c) refl refl refl refl (inl refl)
+another_stepped k (connected c i e) h = spared k.machine (Some c) refl refl refl refl (inl refl)
 another_stepped k (gone c i e) h =
     let n : is k.machine.holder c ≡ false = is_other k.machine.holder c (λ e. h c e refl) in
-    spared k.machine (Client c) refl refl refl (without_other k.machine.holder c (λ e. h c e refl)) (inl (rw n))
-another_stepped k (indicated c on i e) h = spared k.machine (Client c) refl refl refl refl (inl refl)
-another_stepped k (confirmed c i e f) h = spared k.machine (Client c) refl refl refl refl (inl refl)
-another_stepped k (denied c o p i r e) h = spared k.machine (Client c) refl refl refl refl (inl refl)
+    spared k.machine (Some c) refl refl refl (without_other k.machine.holder c (λ e. h c e refl)) (inl (rw n))
+another_stepped k (indicated c on i e) h = spared k.machine (Some c) refl refl refl refl (inl refl)
+another_stepped k (confirmed c i e f) h = spared k.machine (Some c) refl refl refl refl (inl refl)
+another_stepped k (denied c o p i r e) h = spared k.machine (Some c) refl refl refl refl (inl refl)
 another_stepped k (granted c o p i x e g) h = spared_done k.machine c (λ e. h c e refl) p x.act g.controlled g.right
-another_stepped k (fed v) h = spared k.machine Nobody refl refl refl refl (inr refl)
+another_stepped k (fed v) h = spared k.machine None refl refl refl refl (inr refl)
 
 pub by_another : (k : Console) (q : Call) → ByAnother k q → Spared k.machine (by q) (step k q).1.machine
 by_another k q h = another_stepped k (steps k q) h

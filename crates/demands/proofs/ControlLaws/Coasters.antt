@@ -1,4 +1,5 @@
 -- Control points that are wrong about spin down: each breaks demand 2's predicate, whatever else it does, or the law of a run.
+use Rattle.std.specs.Prelude.{Option, Some}
 use Prim.Native.Nat.{ℕ, ◌≤◌}
 use mathlib.Core.Path.{◌≡◌, refl, sym, ap, subst, ◌∙◌}
 use mathlib.Core.Bool.{Bool, true, false, cond, ◌&&◌, true≢false}
@@ -12,8 +13,6 @@ use Rattle.record.specs.Feature.{feature_of}
 use Rattle.record.specs.Groups.{has}
 use Rattle.record.specs.Octets.{spelled, number}
 use Rattle.service.specs.declared.control.Console.{Console}
-use Rattle.service.specs.declared.control.machine.Who.{Who}
-use Rattle.service.specs.declared.control.machine.Who.TheVariants.{Client}
 use Rattle.service.specs.declared.control.spin_down.Run.{Run}
 use Rattle.service.specs.declared.control.spin_down.Run.TheVariants.{Off, Quiet, Warned}
 use Rattle.service.specs.Control.OpCodes.{op_code}
@@ -92,7 +91,7 @@ module _ {S : Type 0} (p : Point S) where
 
   -- one that says anything at a speed after the holder's disconnect, after any opening and any calls
   pub not_outliving : (o : Opening) (f : Feature) → feature_of o.feature ≡ given f → (x : S) → p.opening o ≡ given x → (qs : List Call) (c v : ℕ) →
-      holder_by (run p x [] qs).0 [] ≡ Client c → refusal_of (p.calling (run p x [] qs).1 (disconnect c)).0 ≡ 0 →
+      holder_by (run p x [] qs).0 [] ≡ Some c → refusal_of (p.calling (run p x [] qs).1 (disconnect c)).0 ≡ 0 →
       (status_of (p.calling (run p x [] (qs ++ disconnect c ∷ [])).1 (flywheel v)).0 ≡ [] → ⊥) → Answers p → ⊥
   not_outliving o f e x h qs c v w d s a = s (ap status_of (gone_says_nothing p (answers_told p a) o f e x h qs c v w d))
 
@@ -181,7 +180,7 @@ unfolding led_by holder_by run connects disconnects indicates confirms writes fe
 run_halted_unlawful h = true≢false (sym (runs_so run_halted h able_opens (starts ++ asks 0 (0x07 ∷ []) ++ asks 0 (0x08 ∷ 1 ∷ [])) false true refl refl))
 
 -- a client that does not hold control starts a run: it is the holder while it writes 13
-abbrev holding : Console → Who → Console
+abbrev holding : Console → Option ℕ → Console
 holding k w = with_machine k (held_by k.machine w)
 
 abbrev as_holder : Console → Call → Answer Sent × Console
@@ -190,7 +189,7 @@ as_holder k (disconnect c) = disconnects k c
 as_holder k (confirm c) = confirms k c
 as_holder k (indicate c b) = indicates k c b
 as_holder k (write c s) =
-    let x : Answer Sent × Console = writes (holding k (Client c)) c s in
+    let x : Answer Sent × Console = writes (holding k (Some c)) c s in
     cond (eqb (get_or s 0 0) 0x13) (x.0, holding x.1 k.machine.holder) (writes k c s)
 as_holder k (flywheel v) = feeds k v
 
@@ -200,7 +199,7 @@ anyone_starts = record { opening = opened; calling = as_holder }
 pub anyone_starts_unlawful : RunByHistory anyone_starts → ⊥
 unfolding led_by holder_by run connects disconnects indicates confirms writes feeds op_code fit judged number has spelled
 anyone_starts_unlawful h =
-    true≢false (ap (λ (w : Who). is w 0) (h.starter_holds (able fair) able_console able_opens (holds 0 ++ ready 1 ++ asks 1 (0x13 ∷ 1 ∷ [])) refl))
+    true≢false (ap (λ (w : Option ℕ). is w 0) (h.starter_holds (able fair) able_console able_opens (holds 0 ++ ready 1 ++ asks 1 (0x13 ∷ 1 ∷ [])) refl))
 
 -- ---- in their answers
 

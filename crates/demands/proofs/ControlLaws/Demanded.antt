@@ -1,4 +1,5 @@
 -- What demand 2's predicate says of any control point: it answers by its history, and says in each run what the run's speeds say.
+use Rattle.std.specs.Prelude.{Option, Some}
 use Prim.Native.Nat.{ℕ, suc}
 use mathlib.Core.Path.{◌≡◌, refl, sym, ap, ◌∙◌}
 use mathlib.Core.Bool.{false}
@@ -10,8 +11,6 @@ use Rattle.record.specs.Feature.{feature_of}
 use Rattle.record.specs.Octets.{number}
 use Rattle.record.proofs.Tests.{passed, failed, tested, eqb_same}
 use Rattle.service.specs.declared.control.Console.{Console}
-use Rattle.service.specs.declared.control.machine.Who.{Who}
-use Rattle.service.specs.declared.control.machine.Who.TheVariants.{Client}
 use Rattle.service.specs.declared.control.spin_down.TargetSpeeds.{TargetSpeeds}
 use Rattle.service.specs.Control.Replies.{Sent, sent, refusal_of}
 use Rattle.service.specs.Control.Calls.{Opening, opened}
@@ -60,7 +59,7 @@ module _ {S : Type 0} (p : Point S) (a : Answers p) where
 
 -- ---- the holder's disconnect
 
-over_then : (t : TargetSpeeds) (c : ℕ) (b : Answer Sent) (r : Led) → refusal_of b ≡ 0 → (next_led t (Client c) (event (disconnect c) b) r).on ≡ false
+over_then : (t : TargetSpeeds) (c : ℕ) (b : Answer Sent) (r : Led) → refusal_of b ≡ 0 → (next_led t (Some c) (event (disconnect c) b) r).on ≡ false
 unfolding number
 over_then t c b r h =
     let e : Event = event (disconnect c) b in
@@ -76,17 +75,17 @@ module _ {S : Type 0} (p : Point S) (a : AnswersByHistory p) (o : Opening) (f : 
   outside_says_nothing v n = a.answers o f e x h qs (flywheel v) tt ∙ rw n
 
   -- a run is over after the holder's disconnect
-  gone_over : (c : ℕ) → holder_by (run p x [] qs).0 [] ≡ Client c → refusal_of (p.calling (run p x [] qs).1 (disconnect c)).0 ≡ 0 →
+  gone_over : (c : ℕ) → holder_by (run p x [] qs).0 [] ≡ Some c → refusal_of (p.calling (run p x [] qs).1 (disconnect c)).0 ≡ 0 →
       (led_by o.speeds (run p x [] (qs ++ disconnect c ∷ [])).0).on ≡ false
   unfolding led_by
   gone_over c w d =
       let b : Answer Sent = (p.calling (run p x [] qs).1 (disconnect c)).0 in
       let r : Led = led_by o.speeds (run p x [] qs).0 in
       ap (λ (l : List Event). (led_by o.speeds l).on) (run_more p x [] qs (disconnect c)) ∙
-      ap (λ (w : Who). (next_led o.speeds w (event (disconnect c) b) r).on) w ∙ over_then o.speeds c b r d
+      ap (λ (w : Option ℕ). (next_led o.speeds w (event (disconnect c) b) r).on) w ∙ over_then o.speeds c b r d
 
 -- after the holder's disconnect no speed says anything
 pub gone_says_nothing : {S : Type 0} (p : Point S) → AnswersByHistory p → (o : Opening) (f : Feature) → feature_of o.feature ≡ given f →
-    (x : S) → p.opening o ≡ given x → (qs : List Call) (c v : ℕ) → holder_by (run p x [] qs).0 [] ≡ Client c →
+    (x : S) → p.opening o ≡ given x → (qs : List Call) (c v : ℕ) → holder_by (run p x [] qs).0 [] ≡ Some c →
     refusal_of (p.calling (run p x [] qs).1 (disconnect c)).0 ≡ 0 → (p.calling (run p x [] (qs ++ disconnect c ∷ [])).1 (flywheel v)).0 ≡ sent [] []
 gone_says_nothing p a o f e x h qs c v w d = outside_says_nothing p a o f e x h (qs ++ disconnect c ∷ []) v (gone_over p a o f e x h qs c w d)

@@ -1,5 +1,6 @@
 -- The holder after any sequence of calls is the one that the history says: the last client whose 00 succeeded, if it has had no successful
 -- reset and no disconnect since, otherwise nobody.
+use Rattle.std.specs.Prelude.{Option, None, Some}
 use Prim.Native.Nat.{ℕ, ◌≤◌}
 use mathlib.Core.Path.{◌≡◌, refl, sym, ap, ◌∙◌}
 use mathlib.Core.Bool.{Bool, true, false, cond, ◌&&◌}
@@ -11,8 +12,6 @@ use Rattle.record.specs.Answer.{Answer, refused, given}
 use Rattle.record.proofs.Tests.{passed, failed, tested, eqb_eq, eqb_ne, eqb_false, eqb_same}
 use Rattle.service.specs.declared.control.Console.{Console}
 use Rattle.service.specs.declared.control.machine.Machine.{Machine}
-use Rattle.service.specs.declared.control.machine.Who.{Who}
-use Rattle.service.specs.declared.control.machine.Who.TheVariants.{Nobody, Client}
 use Rattle.service.specs.declared.control.op_codes.Act.{Act}
 use Rattle.service.specs.declared.control.op_codes.Act.TheVariants.{TakesControl, Resets, Starts, Halts, Stores, SpinsDown}
 use Rattle.service.specs.declared.control.judging.WriteResult.TheVariants.{Success}
@@ -33,16 +32,16 @@ use Rattle.demands.proofs.ControlLaws.Changes.{is_client}
 
 -- ---- the holder after one more event, and after all
 
-next : Event → Who → Who
+next : Event → Option ℕ → Option ℕ
 next e w = cond (succeeded 0x00 e) (by e.call) (unless_ended (e ∷ []) w)
 
-recent : List Event → Who
-recent [] = Nobody
+recent : List Event → Option ℕ
+recent [] = None
 recent (e ∷ past) = next e (recent past)
 
-ended_twice : (e : Event) (es : List Event) (w : Who) → unless_ended (e ∷ es) w ≡ unless_ended es (unless_ended (e ∷ []) w)
-ended_twice e es Nobody = refl
-ended_twice e es (Client c) = elim (tested (ends c e)) [
+ended_twice : (e : Event) (es : List Event) (w : Option ℕ) → unless_ended (e ∷ es) w ≡ unless_ended es (unless_ended (e ∷ []) w)
+ended_twice e es None = refl
+ended_twice e es (Some c) = elim (tested (ends c e)) [
   | passed h ↦ rw h
   | failed h ↦ rw h
 ]
@@ -55,16 +54,16 @@ by_recent (e ∷ past) since = elim (tested (succeeded 0x00 e)) [
   | failed h ↦ rw h (by_recent past (e ∷ since) ∙ ended_twice e since (recent past))
 ]
 
-none_ended : (w : Who) → unless_ended [] w ≡ w
-none_ended Nobody = refl
-none_ended (Client c) = refl
+none_ended : (w : Option ℕ) → unless_ended [] w ≡ w
+none_ended None = refl
+none_ended (Some c) = refl
 
 -- ---- one call
 
-stays : (e : Event) (w : Who) → succeeded 0x00 e ≡ false → ((c : ℕ) → ends c e ≡ false) → w ≡ next e w
+stays : (e : Event) (w : Option ℕ) → succeeded 0x00 e ≡ false → ((c : ℕ) → ends c e ≡ false) → w ≡ next e w
 unfolding next
-stays e Nobody s h = rw s
-stays e (Client c) s h = rw (s, h c)
+stays e None s h = rw s
+stays e (Some c) s h = rw (s, h c)
 
 pub and_no : (x : Bool) → (x && false) ≡ false
 and_no true = refl
@@ -87,10 +86,10 @@ module _ (m : Machine) (c o : ℕ) (p more said : List ℕ) where
   next_done (Stores at) n h = unmoved n
   next_done SpinsDown n h = unmoved n
 
-next_gone : (c : ℕ) (w : Who) → without w c ≡ next (event (disconnect c) (sent [] [])) w
+next_gone : (c : ℕ) (w : Option ℕ) → without w c ≡ next (event (disconnect c) (sent [] [])) w
 unfolding next
-next_gone c Nobody = refl
-next_gone c (Client d) = elim (tested (eqb d c)) [
+next_gone c None = refl
+next_gone c (Some d) = elim (tested (eqb d c)) [
   | passed e ↦ rw (eqb_eq d c e, eqb_same c)
   | failed e ↦ rw (e, eqb_false (λ (f : c ≡ d). eqb_ne d c e (sym f)))
 ]
@@ -135,10 +134,10 @@ holder_by_history o k e qs =
 
 -- ---- what a 00 that succeeds changes: who is awaited and who holds control
 pub taken : (k : Console) (c : ℕ) (p : List ℕ) → result_in (writes k c (0x00 ∷ p)).0 ≡ result_number Success →
-    (writes k c (0x00 ∷ p)).1 ≡ responding k (held_by k.machine (Client c)) c
+    (writes k c (0x00 ∷ p)).1 ≡ responding k (held_by k.machine (Some c)) c
 taken k c p h = from (steps k (write c (0x00 ∷ p))) h
   where
-    from_act : (a : Act) → Number 0x00 a → responding k (done k.machine c a p) c ≡ responding k (held_by k.machine (Client c)) c
+    from_act : (a : Act) → Number 0x00 a → responding k (done k.machine c a p) c ≡ responding k (held_by k.machine (Some c)) c
     from_act TakesControl n = refl
     from_act Resets n = absurd (omega arith)
     from_act Starts n = absurd (omega arith)
@@ -147,7 +146,7 @@ taken k c p h = from (steps k (write c (0x00 ∷ p))) h
     from_act SpinsDown n = absurd (omega arith)
 
     from : {x : Answer Sent × Console} → Stepped k (write c (0x00 ∷ p)) x → result_in x.0 ≡ result_number Success →
-        x.1 ≡ responding k (held_by k.machine (Client c)) c
+        x.1 ≡ responding k (held_by k.machine (Some c)) c
     from (refusal n l g) e = absurd (omega arith)
     from (denied c o p i r f) e = absurd (eqb_ne (result_number r) 1 (not_01 r f) e)
     from (granted c o p i x f g) e = from_act x.act (number_so 0x00 x f)

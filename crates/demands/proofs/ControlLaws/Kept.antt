@@ -1,4 +1,5 @@
 -- Every call keeps a console sound, so that each sequence of calls from opening leaves it sound.
+use Rattle.std.specs.Prelude.{Option, None, Some}
 use Prim.Native.Nat.{ℕ, zero, suc, ◌≤◌}
 use mathlib.Core.Path.{◌≡◌, refl, sym, ap, ◌∙◌}
 use mathlib.Core.Bool.{Bool, true, false, cond, true≢false}
@@ -18,12 +19,9 @@ use Rattle.service.specs.declared.control.machine.Machine.{Machine}
 use Rattle.service.specs.declared.control.machine.Setup.{Setup}
 use Rattle.service.specs.declared.control.machine.Mode.{Mode}
 use Rattle.service.specs.declared.control.machine.Mode.TheVariants.{Running}
-use Rattle.service.specs.declared.control.machine.Who.{Who}
-use Rattle.service.specs.declared.control.machine.Who.TheVariants.{Nobody, Client}
 use Rattle.service.specs.declared.control.op_codes.OpCode.{OpCode}
 use Rattle.service.specs.declared.control.op_codes.Act.{Act}
 use Rattle.service.specs.declared.control.op_codes.Act.TheVariants.{TakesControl, Resets, Starts, Halts, Stores, SpinsDown}
-use Rattle.service.specs.declared.control.op_codes.Lookup.TheVariants.{Known}
 use Rattle.service.specs.Control.OpCodes.{op_code}
 use Rattle.service.specs.Control.Parameters.{size}
 use Rattle.service.specs.declared.control.spin_down.TargetSpeeds.{TargetSpeeds}
@@ -54,22 +52,22 @@ module _ (l : List Link) (n : length l ≡ 4) (c : ℕ) (h : c ≤ 3) (x : Link)
   there d e = get_or-set_other l c d x absent (eqb_ne d c e)
 
   -- a connected client stays connected, if the new state is connected; or if it is another
-  still : x.connected ≡ true → (w : Who) → Present l w → Present (set l c x) w
-  still t Nobody p = tt
-  still t (Client d) p = elim (tested (eqb d c)) [
+  still : x.connected ≡ true → (w : Option ℕ) → Present l w → Present (set l c x) w
+  still t None p = tt
+  still t (Some d) p = elim (tested (eqb d c)) [
     | passed f ↦ rw (eqb_eq d c f) (ap (λ (y : Link). y.connected) here ∙ t)
     | failed f ↦ ap (λ (y : Link). y.connected) (there d f) ∙ p
   ]
 
-  others : (w : Who) → Present l w → Present (set l c x) (without w c)
-  others Nobody p = tt
-  others (Client d) p = elim (tested (eqb d c)) [
+  others : (w : Option ℕ) → Present l w → Present (set l c x) (without w c)
+  others None p = tt
+  others (Some d) p = elim (tested (eqb d c)) [
     | passed f ↦ rw f tt
     | failed f ↦ rw f (ap (λ (y : Link). y.connected) (there d f) ∙ p)
   ]
 
 module _ (k : Console) (l : Links k) (c : ℕ) (h : c ≤ 3) where
-  links_with : (x : Link) → (x.indicating ≡ true → x.connected ≡ true) → (m : Machine) (w : Who) → Present (set k.clients c x) w →
+  links_with : (x : Link) → (x.indicating ≡ true → x.connected ≡ true) → (m : Machine) (w : Option ℕ) → Present (set k.clients c x) w →
       Present (set k.clients c x) m.holder → Links (record { machine = m; clients = set k.clients c x; awaited = w })
   links_with x t m w p q = record {
     four = length-set k.clients c x ∙ l.four;
@@ -89,16 +87,16 @@ module _ (k : Console) (l : Links k) (c : ℕ) (h : c ≤ 3) where
   links_joined : (on : Bool) → Links (with_client k c (record { connected = true; indicating = on }))
   links_joined on =
       let x : Link = record { connected = true; indicating = on } in
-      let p : (w : Who) → Present k.clients w → Present (set k.clients c x) w = still k.clients l.four c h x refl in
+      let p : (w : Option ℕ) → Present k.clients w → Present (set k.clients c x) w = still k.clients l.four c h x refl in
       links_with x (λ t. refl) k.machine k.awaited (p k.awaited l.awaited_connected) (p k.machine.holder l.holder_connected)
 
   links_gone : Links (record { machine = freed k.machine c; clients = set k.clients c absent; awaited = without k.awaited c })
   links_gone =
-      let p : (w : Who) → Present k.clients w → Present (set k.clients c absent) (without w c) = others k.clients l.four c h absent in
+      let p : (w : Option ℕ) → Present k.clients w → Present (set k.clients c absent) (without w c) = others k.clients l.four c h absent in
       links_with absent (λ t. t) (freed k.machine c) (without k.awaited c)
       (p k.awaited l.awaited_connected) (p k.machine.holder l.holder_connected)
 
-links_who : (k : Console) → Links k → (m : Machine) (w : Who) → Present k.clients w → Present k.clients m.holder →
+links_who : (k : Console) → Links k → (m : Machine) (w : Option ℕ) → Present k.clients w → Present k.clients m.holder →
     Links (record { machine = m; clients = k.clients; awaited = w })
 links_who k l m w p q = record { four = l.four; indicating_connected = l.indicating_connected; awaited_connected = p; holder_connected = q }
 
@@ -108,12 +106,12 @@ no_run : on Off ≡ true → ⊥
 no_run e = true≢false (sym e)
 
 -- a client that holds control is someone
-held_someone : (w : Who) (c : ℕ) → is w c ≡ true → someone w ≡ true
-held_someone Nobody c e = absurd (true≢false (sym e))
-held_someone (Client d) c e = refl
+held_someone : (w : Option ℕ) (c : ℕ) → is w c ≡ true → someone w ≡ true
+held_someone None c e = absurd (true≢false (sym e))
+held_someone (Some d) c e = refl
 
 -- a run that is on after a client has gone is another's
-run_gone : (w : Who) (c : ℕ) (r : Run) → (on r ≡ true → someone w ≡ true) → on (cond (is w c) Off r) ≡ true → someone (without w c) ≡ true
+run_gone : (w : Option ℕ) (c : ℕ) (r : Run) → (on r ≡ true → someone w ≡ true) → on (cond (is w c) Off r) ≡ true → someone (without w c) ≡ true
 run_gone w c r h e = elim (tested (is w c)) [
   | passed t ↦ absurd (no_run (rw t at e))
   | failed t ↦ rw t (h (rw t at e))
@@ -127,7 +125,7 @@ run_fed t Warned v e = refl
 
 -- ---- settings
 
-module _ (k : Console) (s : Sound k) (c o : ℕ) (p : List ℕ) (x : OpCode) (e : op_code o ≡ Known x)
+module _ (k : Console) (s : Sound k) (c o : ℕ) (p : List ℕ) (x : OpCode) (e : op_code o ≡ Some x)
     (g : fit k.machine.setup.ranges x p ≡ true) where
   stored_right : (a : ℕ) → x.act ≡ Stores a → (i : ℕ) →
       Right k.machine.setup.ranges (op_code i) (setting (storing k.machine (placed k.machine.settings a p)) i)
@@ -143,7 +141,7 @@ module _ (k : Console) (s : Sound k) (c o : ℕ) (p : List ℕ) (x : OpCode) (e 
       Sound (responding k (spinning (going k.machine a) r) c)
   unfolding setting
   same_holder j a r h = record {
-    links = links_who k s.links _ (Client c) j s.links.holder_connected;
+    links = links_who k s.links _ (Some c) j s.links.holder_connected;
     room = s.room;
     right = s.right;
     run_held = h;
@@ -152,14 +150,14 @@ module _ (k : Console) (s : Sound k) (c o : ℕ) (p : List ℕ) (x : OpCode) (e 
   sound_done : is_connected k c ≡ true → (a : Act) → x.act ≡ a → controls k.machine.holder c a ≡ true → Sound (responding k (done k.machine c a p) c)
   unfolding setting
   sound_done j TakesControl f w =
-      record { links = links_who k s.links _ (Client c) j j; room = s.room; right = s.right; run_held = λ e. refl }
+      record { links = links_who k s.links _ (Some c) j j; room = s.room; right = s.right; run_held = λ e. refl }
   sound_done j Resets f w =
-      record { links = links_who k s.links _ (Client c) j tt; room = refl; right = λ i. at_zero (zero_at i); run_held = λ e. absurd (no_run e) }
+      record { links = links_who k s.links _ (Some c) j tt; room = refl; right = λ i. at_zero (zero_at i); run_held = λ e. absurd (no_run e) }
   sound_done j Starts f w = same_holder j Running k.machine.run s.run_held
   sound_done j Halts f w = same_holder j (halted_to (number 1 p)) k.machine.run s.run_held
   sound_done j SpinsDown f w = same_holder j k.machine.mode (spun_to (number 1 p)) (λ e. held_someone k.machine.holder c w)
   sound_done j (Stores a) f w = record {
-    links = links_who k s.links _ (Client c) j s.links.holder_connected;
+    links = links_who k s.links _ (Some c) j s.links.holder_connected;
     room = length-sets k.machine.settings a p ∙ s.room;
     right = stored_right a f;
     run_held = s.run_held;
@@ -179,9 +177,9 @@ sound_stepped k s (gone c h e) = record {
 }
 sound_stepped k s (indicated c on h e) = record { links = links_joined k s.links c h on; room = s.room; right = s.right; run_held = s.run_held }
 sound_stepped k s (confirmed c h e f) =
-    record { links = links_who k s.links k.machine Nobody tt s.links.holder_connected; room = s.room; right = s.right; run_held = s.run_held }
+    record { links = links_who k s.links k.machine None tt s.links.holder_connected; room = s.room; right = s.right; run_held = s.run_held }
 sound_stepped k s (denied c o p h r n) = record {
-  links = links_who k s.links k.machine (Client c) h.joined s.links.holder_connected;
+  links = links_who k s.links k.machine (Some c) h.joined s.links.holder_connected;
   room = s.room;
   right = s.right;
   run_held = s.run_held;

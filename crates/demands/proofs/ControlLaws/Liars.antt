@@ -1,4 +1,5 @@
 -- Control points that are wrong in one respect, in the console that they keep or in an answer: each breaks the law about that.
+use Rattle.std.specs.Prelude.{None}
 use Prim.Native.Nat.{ℕ}
 use mathlib.Core.Path.{◌≡◌, refl, sym, ap}
 use mathlib.Core.Bool.{Bool, true, false, cond, not, true≢false}
@@ -13,7 +14,6 @@ use Rattle.record.specs.Octets.{number}
 use Rattle.service.specs.declared.control.Console.{Console}
 use Rattle.service.specs.declared.control.machine.Mode.{Mode}
 use Rattle.service.specs.declared.control.machine.Mode.TheVariants.{Stopped, Running, Paused}
-use Rattle.service.specs.declared.control.machine.Who.TheVariants.{Nobody}
 use Rattle.service.specs.Control.OpCodes.{op_code}
 use Rattle.service.specs.Control.Machine.{is, someone, without, held_by, going, storing}
 use Rattle.service.specs.Control.Judging.{fit, judged}
@@ -252,7 +252,7 @@ pauses_again_refuted h =
 
 -- only the writer's own response keeps it from writing
 abbrev pub busy_alone : Point Console
-busy_alone = retold (of_write (λ c s before a. cond (is before.awaited c) a (writes (awaiting before Nobody) c s).0))
+busy_alone = retold (of_write (λ c s before a. cond (is before.awaited c) a (writes (awaiting before None) c s).0))
 
 pub busy_alone_refuted : AnswersByHistory busy_alone → ⊥
 unfolding run connects indicates confirms writes op_code fit judged number has holder_by mode_by awaited_by connected_by indicating_by led_by

@@ -1,4 +1,5 @@
 -- The number of an op code by what it does, and of a result by whether it is a success.
+use Rattle.std.specs.Prelude.{Some}
 use Prim.Native.Nat.{ℕ, ◌≤◌}
 use mathlib.Core.Path.{◌≡◌, refl}
 use mathlib.Core.Bool.{Bool, true, false, true≢false}
@@ -7,7 +8,6 @@ use Rattle.record.proofs.Tests.{eqb_eq, leb_le}
 use Rattle.service.specs.declared.control.op_codes.OpCode.{OpCode}
 use Rattle.service.specs.declared.control.op_codes.Act.{Act}
 use Rattle.service.specs.declared.control.op_codes.Act.TheVariants.{TakesControl, Resets, Starts, Halts, Stores, SpinsDown}
-use Rattle.service.specs.declared.control.op_codes.Lookup.TheVariants.{Known}
 use Rattle.service.specs.declared.control.judging.WriteResult.{WriteResult}
 use Rattle.service.specs.declared.control.judging.WriteResult.TheVariants.{Success, NotSupported, InvalidParameter, OperationFailed, ControlNotPermitted}
 use Rattle.service.specs.Control.OpCodes.{op_code}
@@ -31,7 +31,7 @@ numbered o Halts = leb 2 o
 numbered o (Stores at) = leb 2 o
 numbered o SpinsDown = leb 2 o
 
-pub number_so : (o : ℕ) (x : OpCode) → op_code o ≡ Known x → Number o x.act
+pub number_so : (o : ℕ) (x : OpCode) → op_code o ≡ Some x → Number o x.act
 number_so o x e = from x.act (table_rule (λ o x. numbered o x.act) refl o x e)
   where
     from : (a : Act) → numbered o a ≡ true → Number o a

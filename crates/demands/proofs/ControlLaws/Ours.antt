@@ -1,4 +1,5 @@
 -- The code that runs: answers that meet its contracts are the service's, so that every law of the service is a law of the code.
+use Rattle.std.specs.Prelude.{Some}
 use Prim.Native.Nat.{ℕ, ◌≤◌}
 use mathlib.Core.Path.{◌≡◌, refl, sym, ap, ◌∙◌}
 use mathlib.Core.Logic.{◌⊎◌}
@@ -13,7 +14,6 @@ use Rattle.service.specs.declared.control.Console.{Console}
 use Rattle.service.specs.declared.control.Reply.{Reply}
 use Rattle.service.specs.declared.control.spin_down.TargetSpeeds.{TargetSpeeds}
 use Rattle.service.specs.declared.control.ranges.Ranges.{Ranges}
-use Rattle.service.specs.declared.control.machine.Who.TheVariants.{Client}
 use Rattle.service.specs.declared.control.judging.WriteResult.TheVariants.{Success}
 use Rattle.service.specs.Control.OpCodes.{op_code}
 use Rattle.service.specs.Control.SpinDown.{on}
@@ -100,7 +100,7 @@ module _ {k : Console} {q : Call} {x : Answer Sent × Console} (d : Did k q x) w
 
 -- a write of an op code that stores succeeds only for the holder
 pub ours_to_holder : {k : Console} {c o : ℕ} {p : List ℕ} {x : Answer Sent × Console} → Did k (write c (o ∷ p)) x → stores (op_code o) ≡ true →
-    result_in x.0 ≡ result_number Success → k.machine.holder ≡ Client c
+    result_in x.0 ≡ result_number Success → k.machine.holder ≡ Some c
 ours_to_holder {k} {c} {o} {p} d t h = granted_to_holder k c o p t (rw (steps_alike d) at h)
 
 -- outside a run a speed says nothing and changes nothing

@@ -1,4 +1,5 @@
 -- A setting that is stored is read back as it was written, and changes no other setting.
+use Rattle.std.specs.Prelude.{Option, None, Some}
 use Prim.Native.Nat.{ℕ, zero, suc, ◌+◌, ◌-◌, ◌≤◌}
 use mathlib.Core.Path.{◌≡◌, refl, sym, ap, ◌∙◌}
 use mathlib.Core.Logic.{◌⊎◌, inl, inr}
@@ -14,8 +15,6 @@ use Rattle.service.specs.declared.control.machine.Machine.{Machine}
 use Rattle.service.specs.declared.control.op_codes.OpCode.{OpCode}
 use Rattle.service.specs.declared.control.op_codes.Act.{Act}
 use Rattle.service.specs.declared.control.op_codes.Act.TheVariants.{TakesControl, Resets, Starts, Halts, Stores, SpinsDown}
-use Rattle.service.specs.declared.control.op_codes.Lookup.{Lookup}
-use Rattle.service.specs.declared.control.op_codes.Lookup.TheVariants.{Known, Unknown}
 use Rattle.service.specs.Control.OpCodes.{table, op_code}
 use Rattle.service.specs.Control.Parameters.{size}
 use Rattle.service.specs.Control.Machine.{storing}
@@ -73,9 +72,9 @@ or_cases false y e = inr e
 
 -- ---- a setting that is stored
 
-module _ (m : Machine) (o : ℕ) (x : OpCode) (a : ℕ) (p : List ℕ) (e : op_code o ≡ Known x) (f : x.act ≡ Stores a)
+module _ (m : Machine) (o : ℕ) (x : OpCode) (a : ℕ) (p : List ℕ) (e : op_code o ≡ Some x) (f : x.act ≡ Stores a)
     (n : length p ≡ size x.parameter) where
-  apart_two : (i : ℕ) (y : OpCode) (b : ℕ) → op_code i ≡ Known y → y.act ≡ Stores b → (i ≡ o → ⊥) →
+  apart_two : (i : ℕ) (y : OpCode) (b : ℕ) → op_code i ≡ Some y → y.act ≡ Stores b → (i ≡ o → ⊥) →
       (a + size x.parameter ≤ b) ⊎ (b + size y.parameter ≤ a)
   apart_two i y b g j d =
       let h : clear o x i y ≡ true = table_rule (clear o x) (table_rule clear_of_all refl o x e) i y g in
@@ -98,7 +97,7 @@ module _ (m : Machine) (o : ℕ) (x : OpCode) (a : ℕ) (p : List ℕ) (e : op_c
   unfolding setting
   stored_other i d = from (op_code i) refl
     where
-      from_act : (y : OpCode) → op_code i ≡ Known y → (b : Act) → y.act ≡ b →
+      from_act : (y : OpCode) → op_code i ≡ Some y → (b : Act) → y.act ≡ b →
           part (placed m.settings a p) (size y.parameter) b ≡ part m.settings (size y.parameter) b
       from_act y g TakesControl j = refl
       from_act y g Resets j = refl
@@ -110,9 +109,9 @@ module _ (m : Machine) (o : ℕ) (x : OpCode) (a : ℕ) (p : List ℕ) (e : op_c
         | inr h ↦ before p m.settings a b (size y.parameter) h
       ]
 
-      from : (l : Lookup) → op_code i ≡ l → setting_of (placed m.settings a p) l ≡ setting_of m.settings l
-      from (Known y) g = from_act y g y.act refl
-      from Unknown g = refl
+      from : (l : Option OpCode) → op_code i ≡ l → setting_of (placed m.settings a p) l ≡ setting_of m.settings l
+      from (Some y) g = from_act y g y.act refl
+      from None g = refl
 
 -- ---- every setting of a machine whose octets are zero is zero
 
@@ -136,6 +135,6 @@ zero_at o = from (op_code o) refl
     from_act n SpinsDown h = refl
     from_act n (Stores b) h = zeros_part n b 49 h
 
-    from : (l : Lookup) → op_code o ≡ l → setting_of (replicate 49 0) l ≡ zero_setting l
-    from (Known x) e = from_act (size x.parameter) x.act (room_for o x e)
-    from Unknown e = refl
+    from : (l : Option OpCode) → op_code o ≡ l → setting_of (replicate 49 0) l ≡ zero_setting l
+    from (Some x) e = from_act (size x.parameter) x.act (room_for o x e)
+    from None e = refl

@@ -1,4 +1,5 @@
 -- The contracts of the code can be met: at every console and call some reply meets them, and the service itself is such a control point.
+use Rattle.std.specs.Prelude.{Err}
 use Prim.Native.Nat.{ℕ, zero, suc, ◌+◌, ◌-◌, ◌≤◌, ◌<◌}
 use mathlib.Core.Path.{◌≡◌, refl, sym, ap, subst, ◌∙◌}
 use mathlib.Core.List.{List, [], ◌∷◌}
@@ -14,7 +15,6 @@ use Rattle.record.specs.Refusal.{number_of}
 use Rattle.record.specs.Feature.{named, words}
 use Rattle.record.proofs.Tests.{passed, failed, tested}
 use Rattle.service.specs.declared.control.Console.{Console}
-use Rattle.service.specs.declared.control.Outcome.TheVariants.{Refused}
 use Rattle.service.specs.declared.control.Reply.{Reply}
 use Rattle.service.specs.Control.Counted.{boxed}
 use Rattle.service.specs.Control.Machine.{usable}
@@ -56,7 +56,7 @@ Sayable x = (y : Reply) × Says y x
 says_refused : (k : Console) (n : ℕ) → 10 ≤ n → n ≤ 22 → Sayable (refuses k n)
 says_refused k n l g =
     let w : (w : Refusal) × (number_of w ≡ n) = refusal_at n l g in (
-      record { outcome = Refused w.0; response = boxed []; status = boxed []; console = k },
+      record { outcome = Err w.0; response = boxed []; status = boxed []; console = k },
       record { means = ap (refuses k) w.1; response_rest = refl; status_rest = refl },
     )
 

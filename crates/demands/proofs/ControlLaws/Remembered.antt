@@ -1,4 +1,5 @@
 -- Mode, awaited response, connected clients and indications after any sequence of calls are those that the history says.
+use Rattle.std.specs.Prelude.{Option}
 use Prim.Native.Nat.{ℕ, ◌≤◌}
 use mathlib.Core.Path.{◌≡◌, refl, sym, ap, ◌∙◌}
 use mathlib.Core.Bool.{Bool, true, false, cond, not, ◌&&◌, true≢false}
@@ -16,7 +17,6 @@ use Rattle.service.specs.declared.control.Console.{Console}
 use Rattle.service.specs.declared.control.machine.Machine.{Machine}
 use Rattle.service.specs.declared.control.machine.Mode.{Mode}
 use Rattle.service.specs.declared.control.machine.Mode.TheVariants.{Stopped, Running}
-use Rattle.service.specs.declared.control.machine.Who.{Who}
 use Rattle.service.specs.declared.control.op_codes.Act.{Act}
 use Rattle.service.specs.declared.control.op_codes.Act.TheVariants.{TakesControl, Resets, Starts, Halts, Stores, SpinsDown}
 use Rattle.service.specs.declared.control.op_codes.Bound.{Bound}
@@ -159,7 +159,7 @@ mode_by_history =
 
 -- ---- whose response awaits confirmation
 
-next_awaited : Event → Who → Who
+next_awaited : Event → Option ℕ → Option ℕ
 next_awaited e before = cond (responded e) (by e.call) (cond (accepted e) (still_due e.call before) before)
 
 -- every result is one of 01 to 05

@@ -1,4 +1,5 @@
 -- The table of op codes says what document 01's sentences say, for every octet.
+use Rattle.std.specs.Prelude.{Option, None, Some}
 use Prim.Native.Nat.{ℕ, zero, suc, ◌+◌, ◌≤◌, ◌<◌}
 use mathlib.Core.Path.{◌≡◌, refl, sym, ap, ◌∙◌}
 use mathlib.Core.Bool.{Bool, true, false, cond, not, ◌&&◌, ◌||◌}
@@ -11,14 +12,11 @@ use Rattle.record.specs.declared.layout.Width.{Width}
 use Rattle.record.specs.declared.feature.Feature.{Feature}
 use Rattle.record.specs.Octets.{number, signed}
 use Rattle.record.proofs.Tests.{passed, failed, tested, all}
+use Rattle.service.specs.declared.control.op_codes.OpCode.{OpCode}
 use Rattle.service.specs.declared.control.ranges.Ranges.{Ranges}
 use Rattle.service.specs.declared.control.machine.Machine.{Machine}
 use Rattle.service.specs.declared.control.machine.Mode.{Mode}
 use Rattle.service.specs.declared.control.machine.Mode.TheVariants.{Stopped, Running, Paused}
-use Rattle.service.specs.declared.control.machine.Who.{Who}
-use Rattle.service.specs.declared.control.machine.Who.TheVariants.{Nobody, Client}
-use Rattle.service.specs.declared.control.op_codes.Lookup.{Lookup}
-use Rattle.service.specs.declared.control.op_codes.Lookup.TheVariants.{Known, Unknown}
 use Rattle.service.specs.Control.Ranges as ranges
 use Rattle.service.specs.Control.Ranges.{of_speed, of_signed, of_heart_rate, admits}
 use Rattle.service.specs.Control.OpCodes.{op_code}
@@ -53,9 +51,9 @@ module _ {A : Type 0} (f g : ℕ → A) where
 
 -- ---- each sentence, for what the table says about an octet
 
-abbrev supported_by : Feature → Lookup → Bool
-supported_by f (Known x) = supports f x.need
-supported_by f Unknown = false
+abbrev supported_by : Feature → Option OpCode → Bool
+supported_by f (Some x) = supports f x.need
+supported_by f None = false
 
 pub supported_so : (f : Feature) (o : ℕ) → o ≤ 255 → supported_by f (op_code o) ≡ rule.supported f.targets o
 unfolding op_code
@@ -70,13 +68,13 @@ pub followed_so : (t : TargetSpeeds) (p : List ℕ) (o : ℕ) → o ≤ 255 → 
 unfolding op_code
 followed_so t p = every (λ o. success_followed t (op_code o) p) (λ o. rule.followed t o p) refl
 
-abbrev widths_of : Lookup → List Width
-widths_of (Known x) = parameters.widths x.parameter
-widths_of Unknown = []
+abbrev widths_of : Option OpCode → List Width
+widths_of (Some x) = parameters.widths x.parameter
+widths_of None = []
 
-abbrev size_of : Lookup → ℕ
-size_of (Known x) = parameters.size x.parameter
-size_of Unknown = 0
+abbrev size_of : Option OpCode → ℕ
+size_of (Some x) = parameters.size x.parameter
+size_of None = 0
 
 pub widths_so : (o : ℕ) → o ≤ 255 → widths_of (op_code o) ≡ rule.widths o
 unfolding op_code
@@ -86,9 +84,9 @@ pub size_so : (o : ℕ) → o ≤ 255 → size_of (op_code o) ≡ rule.size o
 unfolding op_code
 size_so = every (λ o. size_of (op_code o)) rule.size refl
 
-abbrev allowed_by : Ranges → Lookup → List ℕ → Bool
-allowed_by r (Known x) p = ranges.allowed r x.bound p
-allowed_by r Unknown p = true
+abbrev allowed_by : Ranges → Option OpCode → List ℕ → Bool
+allowed_by r (Some x) p = ranges.allowed r x.bound p
+allowed_by r None p = true
 
 -- which range is asked of each op code, and then that each admits what the rule allows
 module _ (r : Ranges) (p : List ℕ) where
@@ -158,20 +156,20 @@ room_so = refl
 
 -- ---- the result of every write: each test that it is judged by is the rule's
 
-abbrev controlled_by : Who → ℕ → Lookup → Bool
-controlled_by w c (Known x) = controls w c x.act
-controlled_by w c Unknown = is w c
+abbrev controlled_by : Option ℕ → ℕ → Option OpCode → Bool
+controlled_by w c (Some x) = controls w c x.act
+controlled_by w c None = is w c
 
-abbrev fit_by : Ranges → Lookup → List ℕ → Bool
+abbrev fit_by : Ranges → Option OpCode → List ℕ → Bool
 fit_by r l p = eqb (length p) (size_of l) && allowed_by r l p
 
-abbrev failing_by : Machine → ℕ → Lookup → ℕ → Bool
-failing_by m c (Known x) n = fails m c x.act n
-failing_by m c Unknown n = false
+abbrev failing_by : Machine → ℕ → Option OpCode → ℕ → Bool
+failing_by m c (Some x) n = fails m c x.act n
+failing_by m c None n = false
 
-another_so : (w : Who) (c : ℕ) → someone (without w c) ≡ rule.another w c
-another_so Nobody c = refl
-another_so (Client d) c = elim (tested (eqb d c)) [
+another_so : (w : Option ℕ) (c : ℕ) → someone (without w c) ≡ rule.another w c
+another_so None c = refl
+another_so (Some d) c = elim (tested (eqb d c)) [
   | passed e ↦ rw e
   | failed e ↦ rw e
 ]
@@ -200,11 +198,11 @@ module _ (m : Machine) (c : ℕ) (p : List ℕ) where
   unfolding op_code
   controlled_so = every (λ o. controlled_by m.holder c (op_code o)) (λ o. eqb o 0x00 || is m.holder c) refl
 
-  judged_by : (l : Lookup) → result_of m c l p ≡
+  judged_by : (l : Option OpCode) → result_of m c l p ≡
       first_of (supported_by m.setup.feature l) (controlled_by m.holder c l) (fit_by m.setup.ranges l p) (failing_by m c l (number 1 p))
   unfolding judged fit
-  judged_by (Known x) = refl
-  judged_by Unknown = refl
+  judged_by (Some x) = refl
+  judged_by None = refl
 
   abbrev failing : ℕ → Bool
   failing o =

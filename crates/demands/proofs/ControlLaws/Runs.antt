@@ -1,4 +1,5 @@
 -- A run of spin down after any sequence of calls is the one that the history says, and says what its speeds say.
+use Rattle.std.specs.Prelude.{Option, None, Some}
 use Prim.Native.Nat.{ℕ, ◌≤◌}
 use mathlib.Core.Path.{◌≡◌, refl, sym, ap, subst, ◌∙◌}
 use mathlib.Core.Bool.{Bool, true, false, cond, not, ◌&&◌, true≢false}
@@ -11,8 +12,6 @@ use Rattle.record.specs.Octets.{number}
 use Rattle.record.proofs.Tests.{passed, failed, tested, eqb_eq, eqb_ne, eqb_false, eqb_true, eqb_same, leb_le, and_l, and_r}
 use Rattle.service.specs.declared.control.Console.{Console}
 use Rattle.service.specs.declared.control.machine.Setup.{Setup}
-use Rattle.service.specs.declared.control.machine.Who.{Who}
-use Rattle.service.specs.declared.control.machine.Who.TheVariants.{Nobody, Client}
 use Rattle.service.specs.declared.control.spin_down.TargetSpeeds.{TargetSpeeds}
 use Rattle.service.specs.declared.control.spin_down.Run.{Run}
 use Rattle.service.specs.declared.control.spin_down.Run.TheVariants.{Off, Quiet, Warned}
@@ -23,7 +22,6 @@ use Rattle.service.specs.declared.control.op_codes.Bound.{Bound}
 use Rattle.service.specs.declared.control.op_codes.Bound.TheVariants.{OneOrTwo}
 use Rattle.service.specs.declared.control.op_codes.Status.{Status}
 use Rattle.service.specs.declared.control.op_codes.Status.TheVariants.{Silent, Octet, Echo}
-use Rattle.service.specs.declared.control.op_codes.Lookup.TheVariants.{Known}
 use Rattle.service.specs.declared.control.judging.WriteResult.TheVariants.{Success}
 use Rattle.service.specs.Control.OpCodes.{op_code}
 use Rattle.service.specs.Control.SpinDown.{on, followed_by, success_said, stop_said, said_at, run_at}
@@ -87,20 +85,20 @@ record Follows (t : TargetSpeeds) (r : Led) (said : List ℕ) (k : Console) : Ty
   above : r.on ≡ true → any (at_most t.low) r.speeds ≡ false
   said_so : said ≡ words t r.speeds
 
-lost_none : (w : Who) (e : Event) → ((c : ℕ) → ends c e ≡ false) → lost w e ≡ false
-lost_none Nobody e h = refl
-lost_none (Client c) e h = h c
+lost_none : (w : Option ℕ) (e : Event) → ((c : ℕ) → ends c e ≡ false) → lost w e ≡ false
+lost_none None e h = refl
+lost_none (Some c) e h = h c
 
 -- a disconnect of a client that does not hold control
-lost_other : (w : Who) (c : ℕ) → is w c ≡ false → lost w (event (disconnect c) (sent [] [])) ≡ false
-lost_other Nobody c e = refl
-lost_other (Client d) c e = eqb_false (λ (f : c ≡ d). eqb_ne d c e (sym f))
+lost_other : (w : Option ℕ) (c : ℕ) → is w c ≡ false → lost w (event (disconnect c) (sent [] [])) ≡ false
+lost_other None c e = refl
+lost_other (Some d) c e = eqb_false (λ (f : c ≡ d). eqb_ne d c e (sym f))
 
 -- who takes control and finds it held had it
-had : (w : Who) (c : ℕ) → someone w ≡ true → someone (without w c) ≡ false → Client c ≡ w
-had Nobody c e f = absurd (true≢false (sym e))
-had (Client d) c e f = elim (tested (eqb d c)) [
-  | passed t ↦ ap Client (sym (eqb_eq d c t))
+had : (w : Option ℕ) (c : ℕ) → someone w ≡ true → someone (without w c) ≡ false → Some c ≡ w
+had None c e f = absurd (true≢false (sym e))
+had (Some d) c e f = elim (tested (eqb d c)) [
+  | passed t ↦ ap Some (sym (eqb_eq d c t))
   | failed t ↦ absurd (true≢false (rw t at f))
 ]
 
@@ -151,7 +149,7 @@ module _ (k : Console) (r : Led) (said : List ℕ) (f : Follows k.machine.setup.
 -- ---- one call
 
 module _ (k : Console) (z : Sound k) (r : Led) (said : List ℕ) (f : Follows k.machine.setup.speeds r said k) where
-  module _ (c o : ℕ) (p : List ℕ) (x : OpCode) (i : op_code o ≡ Known x) (g : Granted k.machine c x p) where
+  module _ (c o : ℕ) (p : List ℕ) (x : OpCode) (i : op_code o ≡ Some x) (g : Granted k.machine c x p) where
     abbrev success_response : List ℕ
     success_response = response_octets o Success ++ followed_by k.machine.setup.speeds x.act (number 1 p)
 
@@ -246,7 +244,7 @@ ran_more k z past q h f =
     let e : Event = event q (step k q).0 in
     let s : TargetSpeeds = k.machine.setup.speeds in
     subst (λ (t : TargetSpeeds). Follows t (led_by t (e ∷ past)) (spoken (e ∷ past)) (step k q).1) (sym (ap (λ s. s.speeds) (fixed_at_opening k q)))
-    (subst (λ (w : Who). Follows s (next_led s w e (led_by s past)) (spoken (e ∷ past)) (step k q).1) h (run_called k z (led_by s past) (spoken past) f q))
+    (subst (λ (w : Option ℕ). Follows s (next_led s w e (led_by s past)) (spoken (e ∷ past)) (step k q).1) h (run_called k z (led_by s past) (spoken past) f q))
 
 ran : (k : Console) → Sound k → (past : List Event) (qs : List Call) → k.machine.holder ≡ holder_by past [] → Ran past k →
     Ran (run service k past qs).0 (run service k past qs).1
@@ -302,12 +300,12 @@ outside_run k v h = from k.machine.run refl h
     from Warned e h = absurd (true≢false h)
 
 -- ---- a run is there only while a connected client holds control
-pub run_connected : (k : Console) → Sound k → on k.machine.run ≡ true → (c : ℕ) × (k.machine.holder ≡ Client c) × (is_connected k c ≡ true)
+pub run_connected : (k : Console) → Sound k → on k.machine.run ≡ true → (c : ℕ) × (k.machine.holder ≡ Some c) × (is_connected k c ≡ true)
 run_connected k s h = from k.machine.holder (s.run_held h) s.links.holder_connected
   where
-    from : (w : Who) → someone w ≡ true → Present k.clients w → (c : ℕ) × (w ≡ Client c) × (is_connected k c ≡ true)
-    from Nobody f p = absurd (true≢false (sym f))
-    from (Client c) f p = (c, refl, p)
+    from : (w : Option ℕ) → someone w ≡ true → Present k.clients w → (c : ℕ) × (w ≡ Some c) × (is_connected k c ≡ true)
+    from None f p = absurd (true≢false (sym f))
+    from (Some c) f p = (c, refl, p)
 
 -- ---- nothing is said after 2 until a new start
 

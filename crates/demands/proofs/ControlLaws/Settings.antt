@@ -1,4 +1,5 @@
 -- Each setting after any sequence of calls is the one that the history says; and only the holder's writes change one.
+use Rattle.std.specs.Prelude.{Some}
 use Prim.Native.Nat.{ℕ}
 use mathlib.Core.Path.{◌≡◌, refl, sym, ap, ◌∙◌}
 use mathlib.Core.Bool.{true, false, cond, true≢false}
@@ -11,11 +12,9 @@ use Rattle.record.specs.Answer.{Answer, given}
 use Rattle.record.proofs.Tests.{passed, failed, tested, eqb_eq, eqb_ne, eqb_false}
 use Rattle.service.specs.declared.control.Console.{Console}
 use Rattle.service.specs.declared.control.machine.Machine.{Machine}
-use Rattle.service.specs.declared.control.machine.Who.TheVariants.{Client}
 use Rattle.service.specs.declared.control.op_codes.OpCode.{OpCode}
 use Rattle.service.specs.declared.control.op_codes.Act.{Act}
 use Rattle.service.specs.declared.control.op_codes.Act.TheVariants.{TakesControl, Resets, Starts, Halts, Stores, SpinsDown}
-use Rattle.service.specs.declared.control.op_codes.Lookup.TheVariants.{Known}
 use Rattle.service.specs.declared.control.judging.WriteResult.TheVariants.{Success}
 use Rattle.service.specs.Control.OpCodes.{op_code}
 use Rattle.service.specs.Control.Parameters.{size}
@@ -41,7 +40,7 @@ next o e before = cond (succeeded 0x01 e) (zero_setting (op_code o)) (cond (succ
 
 -- ---- one call
 
-module _ (m : Machine) (w : length m.settings ≡ 49) (c i : ℕ) (y : OpCode) (e : op_code i ≡ Known y) (p : List ℕ)
+module _ (m : Machine) (w : length m.settings ≡ 49) (c i : ℕ) (y : OpCode) (e : op_code i ≡ Some y) (p : List ℕ)
     (n : length p ≡ size y.parameter) where
   module _ (o : ℕ) (t : stores (op_code o) ≡ true) where
     -- an op code that stores nothing is not the op code of this setting
@@ -100,10 +99,10 @@ settings_remembered i t o k e qs = setting_by_history o k e qs i t
 
 -- ---- a write of an op code that stores succeeds only for the holder
 pub granted_to_holder : (k : Console) (c o : ℕ) (p : List ℕ) → stores (op_code o) ≡ true → result_in (writes k c (o ∷ p)).0 ≡ result_number Success →
-    k.machine.holder ≡ Client c
+    k.machine.holder ≡ Some c
 granted_to_holder k c o p t h = from (steps k (write c (o ∷ p))) h
   where
-    from_act : (a : Act) → keeps a ≡ true → controls k.machine.holder c a ≡ true → k.machine.holder ≡ Client c
+    from_act : (a : Act) → keeps a ≡ true → controls k.machine.holder c a ≡ true → k.machine.holder ≡ Some c
     from_act TakesControl e f = absurd (true≢false (sym e))
     from_act Resets e f = is_client k.machine.holder c f
     from_act Starts e f = is_client k.machine.holder c f
@@ -111,7 +110,7 @@ granted_to_holder k c o p t h = from (steps k (write c (o ∷ p))) h
     from_act (Stores at) e f = is_client k.machine.holder c f
     from_act SpinsDown e f = is_client k.machine.holder c f
 
-    from : {x : Answer Sent × Console} → Stepped k (write c (o ∷ p)) x → result_in x.0 ≡ result_number Success → k.machine.holder ≡ Client c
+    from : {x : Answer Sent × Console} → Stepped k (write c (o ∷ p)) x → result_in x.0 ≡ result_number Success → k.machine.holder ≡ Some c
     from (refusal n l g) f = absurd (omega arith)
     from (denied c o p i r e) f = absurd (eqb_ne (result_number r) 1 (not_01 r e) f)
     from (granted c o p i x e g) f = from_act x.act (rw e at t) g.controlled

@@ -1,10 +1,10 @@
 -- What a run says over its speeds, when one more is fed.
+use Rattle.std.specs.Prelude.{Option}
 use Prim.Native.Nat.{ℕ}
 use mathlib.Core.Path.{◌≡◌, refl, sym}
 use mathlib.Core.Bool.{Bool, true, false, cond, not, ◌&&◌, ◌||◌, true≢false}
 use mathlib.Core.List.{List, [], ◌∷◌, ◌++◌, append-nil}
 use Rattle.record.proofs.Tests.{passed, failed, tested}
-use Rattle.service.specs.declared.control.machine.Who.{Who}
 use Rattle.service.specs.declared.control.spin_down.TargetSpeeds.{TargetSpeeds}
 use Rattle.service.specs.declared.control.spin_down.Run.{Run}
 use Rattle.service.specs.declared.control.spin_down.Run.TheVariants.{Off, Quiet, Warned}
@@ -123,10 +123,10 @@ module _ (t : TargetSpeeds) where
   not_low false e = refl
 
   -- a run, by its parts
-  abbrev run_with : Bool → Who → List ℕ → Led
+  abbrev run_with : Bool → Option ℕ → List ℕ → Led
   run_with b w vs = record { on = b; starter = w; speeds = vs }
 
-  above_more : (b : Bool) (w : Who) (vs : List ℕ) (v : ℕ) → (b ≡ true → any (at_most t.low) vs ≡ false) →
+  above_more : (b : Bool) (w : Option ℕ) (vs : List ℕ) (v : ℕ) → (b ≡ true → any (at_most t.low) vs ≡ false) →
       (feeding t (flywheel v) (run_with b w vs)).on ≡ true → any (at_most t.low) (feeding t (flywheel v) (run_with b w vs)).speeds ≡ false
   above_more true w vs v h o = rw (any_more (at_most t.low) vs v, h refl) (not_low (at_most t.low v) o)
   above_more false w vs v h o = absurd (true≢false (sym o))
@@ -136,7 +136,7 @@ module _ (t : TargetSpeeds) where
       (feeding t (flywheel v) r).on ≡ true → any (at_most t.low) (feeding t (flywheel v) r).speeds ≡ false
   fed_above r v = above_more r.on r.starter r.speeds v
 
-  on_before : (b : Bool) (w : Who) (vs : List ℕ) (v : ℕ) → (feeding t (flywheel v) (run_with b w vs)).on ≡ true →
+  on_before : (b : Bool) (w : Option ℕ) (vs : List ℕ) (v : ℕ) → (feeding t (flywheel v) (run_with b w vs)).on ≡ true →
       (b ≡ true) × (w ≡ (feeding t (flywheel v) (run_with b w vs)).starter)
   on_before true w vs v o = (refl, refl)
   on_before false w vs v o = (o, refl)

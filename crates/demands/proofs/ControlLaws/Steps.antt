@@ -1,4 +1,5 @@
 -- What a call may come to: a refusal, or one of seven other cases. Every law of the control point is proved by them.
+use Rattle.std.specs.Prelude.{Option, None, Some}
 use Prim.Native.Nat.{ℕ, ◌≤◌}
 use mathlib.Core.Path.{◌≡◌, refl}
 use mathlib.Core.Bool.{Bool, true, false, cond}
@@ -8,10 +9,7 @@ use lib.ListN.{length, set}
 use Rattle.record.specs.Answer.{Answer}
 use Rattle.service.specs.declared.control.Console.{Console}
 use Rattle.service.specs.declared.control.machine.Machine.{Machine}
-use Rattle.service.specs.declared.control.machine.Who.TheVariants.{Nobody, Client}
 use Rattle.service.specs.declared.control.op_codes.OpCode.{OpCode}
-use Rattle.service.specs.declared.control.op_codes.Lookup.{Lookup}
-use Rattle.service.specs.declared.control.op_codes.Lookup.TheVariants.{Known, Unknown}
 use Rattle.service.specs.declared.control.judging.WriteResult.{WriteResult}
 use Rattle.service.specs.declared.control.judging.WriteResult.TheVariants.{Success, NotSupported}
 use Rattle.service.specs.Control.OpCodes.{op_code}
@@ -30,7 +28,7 @@ use Rattle.demands.specs.Control.Laws.{Heard}
 
 -- a console with another machine, in which a client's response awaits confirmation
 abbrev pub responding : Console → Machine → ℕ → Console
-responding k m c = record { machine = m; clients = k.clients; awaited = Client c }
+responding k m c = record { machine = m; clients = k.clients; awaited = Some c }
 
 pub data Stepped (k : Console) : Call → Answer Sent × Console → Type 0 where
   refusal : {q : Call} (n : ℕ) → 10 ≤ n → n ≤ 22 → Stepped k q (refuses k n)
@@ -41,10 +39,10 @@ pub data Stepped (k : Console) : Call → Answer Sent × Console → Type 0 wher
       (accepts (record { machine = freed k.machine c; clients = set k.clients c absent; awaited = without k.awaited c }))
   indicated : (c : ℕ) (on : Bool) → c ≤ 3 → is_connected k c ≡ true →
       Stepped k (indicate c on) (accepts (with_client k c (record { connected = true; indicating = on })))
-  confirmed : (c : ℕ) → c ≤ 3 → is_connected k c ≡ true → is k.awaited c ≡ true → Stepped k (confirm c) (accepts (awaiting k Nobody))
+  confirmed : (c : ℕ) → c ≤ 3 → is_connected k c ≡ true → is k.awaited c ≡ true → Stepped k (confirm c) (accepts (awaiting k None))
   denied : (c o : ℕ) (p : List ℕ) → Heard k c → (r : WriteResult) → succeeds r ≡ false →
-      Stepped k (write c (o ∷ p)) (responds (response_octets o r) [] (awaiting k (Client c)))
-  granted : (c o : ℕ) (p : List ℕ) → Heard k c → (x : OpCode) → op_code o ≡ Known x → Granted k.machine c x p →
+      Stepped k (write c (o ∷ p)) (responds (response_octets o r) [] (awaiting k (Some c)))
+  granted : (c o : ℕ) (p : List ℕ) → Heard k c → (x : OpCode) → op_code o ≡ Some x → Granted k.machine c x p →
       Stepped k (write c (o ∷ p))
       (responds (response_octets o Success ++ followed_by k.machine.setup.speeds x.act (number 1 p)) (status_octets x.status p)
       (responding k (done k.machine c x.act p) c))
@@ -102,7 +100,7 @@ module _ (k : Console) (c : ℕ) where
 -- ---- writes
 
 module _ (k : Console) (c o : ℕ) (p : List ℕ) (h : Heard k c) where
-  result_steps : (x : OpCode) → op_code o ≡ Known x → {r : WriteResult} → Judged k.machine c x p r →
+  result_steps : (x : OpCode) → op_code o ≡ Some x → {r : WriteResult} → Judged k.machine c x p r →
       Stepped k (write c (o ∷ p))
       (responds (response_octets o r ++ cond (succeeds r) (followed_by k.machine.setup.speeds x.act (number 1 p)) [])
       (cond (succeeds r) (status_octets x.status p) [])
@@ -110,9 +108,9 @@ module _ (k : Console) (c o : ℕ) (p : List ℕ) (h : Heard k c) where
   result_steps x e {r} (against f) = rw f (denied c o p h r f)
   result_steps x e (for g) = granted c o p h x e g
 
-  answer_steps : (l : Lookup) → op_code o ≡ l → Stepped k (write c (o ∷ p)) (answers k c o p)
-  answer_steps (Known x) e = rw e (result_steps x e (judged_so k.machine c x p))
-  answer_steps Unknown e = rw e (denied c o p h NotSupported refl)
+  answer_steps : (l : Option OpCode) → op_code o ≡ l → Stepped k (write c (o ∷ p)) (answers k c o p)
+  answer_steps (Some x) e = rw e (result_steps x e (judged_so k.machine c x p))
+  answer_steps None e = rw e (denied c o p h NotSupported refl)
 
 write_steps : (k : Console) (c : ℕ) (s : List ℕ) → Stepped k (write c s) (writes k c s)
 unfolding writes

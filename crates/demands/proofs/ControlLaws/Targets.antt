@@ -1,5 +1,6 @@
 -- W-206 over every sequence of calls: a control point that answers by its history grants the targets on the steps and no others, and every setting is
 -- zero or on a step.
+use Rattle.std.specs.Prelude.{Option, None, Some}
 use Prim.Native.Nat.{ℕ, suc, ◌-◌, ◌≤◌}
 use mathlib.Core.Path.{◌≡◌, refl, sym, ap, subst, ◌∙◌}
 use mathlib.Core.Bool.{Bool, true, false, not, cond, ◌&&◌, ◌||◌, true≢false}
@@ -12,15 +13,13 @@ use Rattle.record.specs.Answer.{Answer, refused, given}
 use Rattle.record.specs.Feature.{words, named, feature_of}
 use Rattle.record.specs.Groups.{has}
 use Rattle.record.proofs.Tests.{passed, failed, tested, eqb_eq, eqb_same, ltb_false, and_l, and_r}
+use Rattle.service.specs.declared.control.op_codes.OpCode.{OpCode}
 use Rattle.service.specs.declared.control.Console.{Console}
 use Rattle.service.specs.declared.control.ranges.Ranges.{Ranges}
 use Rattle.service.specs.declared.control.machine.Setup.{Setup}
 use Rattle.service.specs.declared.control.machine.Mode.{Mode}
-use Rattle.service.specs.declared.control.machine.Who.{Who}
 use Rattle.service.specs.declared.control.op_codes.Bound.{Bound}
 use Rattle.service.specs.declared.control.op_codes.Bound.TheVariants.{Free}
-use Rattle.service.specs.declared.control.op_codes.Lookup.{Lookup}
-use Rattle.service.specs.declared.control.op_codes.Lookup.TheVariants.{Known, Unknown}
 use Rattle.service.specs.Control.Ranges.{admits, allowed}
 use Rattle.service.specs.Control.OpCodes.{op_code}
 use Rattle.service.specs.Control.Parameters.{size}
@@ -68,7 +67,7 @@ module _ (s : Setup) (past : List Event) (c o n : ℕ) (w : List ℕ) where
     ]
   ]
 
-module _ (s : Setup) (h : Who) (m : Mode) (going : Bool) (c o : ℕ) (p : List ℕ) where
+module _ (s : Setup) (h : Option ℕ) (m : Mode) (going : Bool) (c o : ℕ) (p : List ℕ) where
   abbrev suits : Bool
   suits = eqb (length p) (rule.size o) && rule.allowed s.ranges o p
 
@@ -189,7 +188,7 @@ target_controlled b power = refl
 target_controlled b heart_rate = refl
 
 -- no target has result 04
-target_fails : (s : Setup) (h : Who) (m : Mode) (g : Bool) (c : ℕ) (t : Target) (w : List ℕ) → rule.fails s h m g c (op t) w ≡ false
+target_fails : (s : Setup) (h : Option ℕ) (m : Mode) (g : Bool) (c : ℕ) (t : Target) (w : List ℕ) → rule.fails s h m g c (op t) w ≡ false
 target_fails s h m g c speed w = refl
 target_fails s h m g c inclination w = refl
 target_fails s h m g c resistance w = refl
@@ -202,10 +201,10 @@ module _ (s : Setup) (past : List Event) (c : ℕ) (t : Target) (w : List ℕ) (
 
   judged_by_number : result_in (answer_by s past (write c (op t ∷ w))) ≡ cond (not right) 0x03 0x01
   judged_by_number =
-      let h : Who = holder_by past [] in
+      let h : Option ℕ = holder_by past [] in
       let g : Bool = (led_by s.speeds past).on in
       let i : rule.supported s.feature.targets (op t) ≡ true = target_supported s.feature.targets t ∙ m.able in
-      let j : (eqb (op t) 0x00 || is h c) ≡ true = target_controlled (is h c) t ∙ ap (λ (x : Who). is x c) m.holds ∙ eqb_same c in
+      let j : (eqb (op t) 0x00 || is h c) ≡ true = target_controlled (is h c) t ∙ ap (λ (x : Option ℕ). is x c) m.holds ∙ eqb_same c in
       let k : result_in (answer_by s past (write c (op t ∷ w))) ≡ rule.result s h (mode_by past) g c (op t) w =
       rw (ltb_false 3 c m.small, m.joined, some_octet s past c (op t) 0 w, m.shown, m.clear) in
       k ∙ (λ n. cond (not (i n)) 0x02 (cond (not (j n)) 0x05 (cond (not right) 0x03 (cond (target_fails s h (mode_by past) g c t w n) 0x04 0x01))))
@@ -239,13 +238,13 @@ decides_steps p a = record {
 
 -- ---- every setting
 
-abbrev bound_of : Lookup → Bound
-bound_of (Known x) = x.bound
-bound_of Unknown = Free
+abbrev bound_of : Option OpCode → Bound
+bound_of (Some x) = x.bound
+bound_of None = Free
 
-abbrev size_of : Lookup → ℕ
-size_of (Known x) = size x.parameter
-size_of Unknown = 0
+abbrev size_of : Option OpCode → ℕ
+size_of (Some x) = size x.parameter
+size_of None = 0
 
 target_bound : (r : Ranges) (t : Target) (p : List ℕ) → allowed r (bound_of (op_code (op t))) p ≡ admits (range_of r t) (number_in t p)
 unfolding op_code
@@ -274,11 +273,11 @@ target_zero heart_rate = refl
 settled : (r : Ranges) (t : Target) (p : List ℕ) → Right r (op_code (op t)) p → Settled r t p
 settled r t p h = from (op_code (op t)) refl h
   where
-    from : (l : Lookup) → op_code (op t) ≡ l → Right r l p → Settled r t p
+    from : (l : Option OpCode) → op_code (op t) ≡ l → Right r l p → Settled r t p
     from l e (at_zero z) = increments.at_zero (z ∙ ap zero_setting (sym e) ∙ target_zero t)
-    from (Known x) e (set_to n g) =
+    from (Some x) e (set_to n g) =
         increments.on_step (n ∙ ap size_of (sym e) ∙ target_length t)
-        (allows_steps.only (range_of r t) (number_in t p) (sym (target_bound r t p) ∙ ap (λ (l : Lookup). allowed r (bound_of l) p) e ∙ g))
+        (allows_steps.only (range_of r t) (number_in t p) (sym (target_bound r t p) ∙ ap (λ (l : Option OpCode). allowed r (bound_of l) p) e ∙ g))
 
 -- after every opening and every sequence of calls
 pub settings_settled : (o : Opening) (k : Console) → opened o ≡ given k → (qs : List Call) (t : Target) →

@@ -1,12 +1,10 @@
 -- A console's state from what has happened alone: the calls, the newest first, and the answers to them.
-use Rattle.std.specs.Prelude.{ℕ, ◌≡◌, Bool, true, false, cond, ◌&&◌, List, [], ◌∷◌, eqb, leb}
+use Rattle.std.specs.Prelude.{ℕ, ◌≡◌, Bool, true, false, cond, ◌&&◌, List, [], ◌∷◌, eqb, leb, Option, None}
 use Rattle.record.specs.Answer.{given}
 use Rattle.record.specs.Octets.{number}
 use Rattle.service.specs.declared.control.Console.{Console}
 use Rattle.service.specs.declared.control.machine.Mode.{Mode}
 use Rattle.service.specs.declared.control.machine.Mode.TheVariants.{Stopped, Running, Paused}
-use Rattle.service.specs.declared.control.machine.Who.{Who}
-use Rattle.service.specs.declared.control.machine.Who.TheVariants.{Nobody}
 use Rattle.service.specs.Control.OpCodes.{op_code}
 use Rattle.service.specs.Control.Machine.{is}
 use Rattle.service.specs.Control.Effects.{setting}
@@ -45,12 +43,12 @@ mode_by (e ∷ past) =
 abbrev pub responded : Event → Bool
 responded e = leb 0x01 (result_in e.answer) && leb (result_in e.answer) 0x05
 
-abbrev pub no_longer : ℕ → Who → Who
-no_longer c w = cond (is w c) Nobody w
+abbrev pub no_longer : ℕ → Option ℕ → Option ℕ
+no_longer c w = cond (is w c) None w
 
 -- whose response is awaited after a call that was not refused: that client's confirm or disconnect ends it, "Disconnect frees .. its awaited
 -- response"; for indications, "turning them off leaves an awaited response due"
-abbrev pub still_due : Call → Who → Who
+abbrev pub still_due : Call → Option ℕ → Option ℕ
 still_due (connect c) w = w
 still_due (disconnect c) w = no_longer c w
 still_due (confirm c) w = no_longer c w
@@ -58,10 +56,10 @@ still_due (indicate c on) w = w
 still_due (write c s) w = w
 still_due (flywheel v) w = w
 
-unfoldable pub awaited_by : List Event → Who
-awaited_by [] = Nobody
+unfoldable pub awaited_by : List Event → Option ℕ
+awaited_by [] = None
 awaited_by (e ∷ past) =
-    let before : Who = awaited_by past in
+    let before : Option ℕ = awaited_by past in
     cond (responded e) (by e.call) (cond (accepted e) (still_due e.call before) before)
 
 -- ---- who is connected, and whose indications are on

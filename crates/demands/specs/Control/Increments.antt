@@ -1,6 +1,6 @@
 -- W-206: "A target is allowed when it is in the range and its distance from the least value is a multiple of the increment.": the same in other words,
 -- for a judge of targets, for any control point and for every setting; and what it is without steps.
-use Rattle.std.specs.Prelude.{ℕ, ◌-◌, ◌*◌, ◌≤◌, ◌≡◌, Bool, true, false, ◌&&◌, List, [], ◌∷◌, ℤ, pos, ◌+ℤ◌, length, replicate}
+use Rattle.std.specs.Prelude.{ℕ, ◌-◌, ◌*◌, ◌≤◌, ◌≡◌, Bool, true, false, ◌&&◌, List, [], ◌∷◌, ℤ, pos, ◌+ℤ◌, length, replicate, Some}
 use Rattle.std.specs.Int.Signed.{le_z}
 use Rattle.record.specs.declared.feature.Feature.{Feature}
 use Rattle.record.specs.Answer.{given}
@@ -8,7 +8,6 @@ use Rattle.record.specs.Feature.{feature_of}
 use Rattle.record.specs.Groups.{has}
 use Rattle.record.specs.Octets.{number, signed}
 use Rattle.service.specs.declared.control.ranges.Ranges.{Ranges}
-use Rattle.service.specs.declared.control.machine.Who.TheVariants.{Client}
 use Rattle.service.specs.declared.control.op_codes.Bound.{Bound}
 use Rattle.service.specs.declared.control.op_codes.Bound.TheVariants.{Free, Speed, Inclination, Resistance, Power, HeartRate, OneOrTwo}
 use Rattle.service.specs.Control.Ranges.{Range, of_speed, of_signed, of_heart_rate, in_range, value}
@@ -80,7 +79,7 @@ pub record MaySet (f : Feature) (past : List Event) (c : ℕ) (t : Target) : Typ
   pub joined : connected_by c past ≡ true
   pub shown : indicating_by c past ≡ true
   pub clear : someone (awaited_by past) ≡ false
-  pub holds : holder_by past [] ≡ Client c
+  pub holds : holder_by past [] ≡ Some c
   pub able : has f.targets (op t - 2) ≡ true
 
 -- "result 03 also for a target off the steps": such a client's target is answered 01 if it has its right length and is on a step, and 03 if not

@@ -1,17 +1,13 @@
 -- What holds for a console after any sequence of calls from its opening on: the statements that proofs/ proves for the service.
-use Rattle.std.specs.Prelude.{ℕ, ◌≤◌, ◌≡◌, ◌⊎◌, Bool, true, false, cond, ◌&&◌, ◌||◌, List, [], ◌∷◌, eqb, length, get_or, drop, replicate}
+use Rattle.std.specs.Prelude.{ℕ, ◌≤◌, ◌≡◌, ◌⊎◌, Bool, true, false, cond, ◌&&◌, ◌||◌, List, [], ◌∷◌, eqb, length, get_or, drop, replicate, Option, None, Some}
 use Rattle.record.specs.Answer.{Answer}
 use Rattle.service.specs.declared.control.Client.{Client as Link}
 use Rattle.service.specs.declared.control.Console.{Console}
 use Rattle.service.specs.declared.control.ranges.Ranges.{Ranges}
 use Rattle.service.specs.declared.control.machine.Machine.{Machine}
-use Rattle.service.specs.declared.control.machine.Who.{Who}
-use Rattle.service.specs.declared.control.machine.Who.TheVariants.{Nobody, Client}
 use Rattle.service.specs.declared.control.op_codes.OpCode.{OpCode}
 use Rattle.service.specs.declared.control.op_codes.Act.{Act}
 use Rattle.service.specs.declared.control.op_codes.Act.TheVariants.{TakesControl, Resets, Starts, Halts, Stores, SpinsDown}
-use Rattle.service.specs.declared.control.op_codes.Lookup.{Lookup}
-use Rattle.service.specs.declared.control.op_codes.Lookup.TheVariants.{Known, Unknown}
 use Rattle.service.specs.declared.control.judging.WriteResult.TheVariants.{Success}
 use Rattle.service.specs.Control.Ranges.{allowed}
 use Rattle.service.specs.Control.OpCodes.{op_code}
@@ -27,9 +23,9 @@ use Rattle.demands.specs.Control.Point.{Call, connect, disconnect, confirm, indi
 -- ---- invariants
 
 -- nobody, or a connected client
-abbrev pub Present : List Link → Who → Type 0
-Present clients Nobody = Unit {0}
-Present clients (Client c) = (get_or clients c absent).connected ≡ true
+abbrev pub Present : List Link → Option ℕ → Type 0
+Present clients None = Unit {0}
+Present clients (Some c) = (get_or clients c absent).connected ≡ true
 
 -- "Clients are 0 to 3." "Disconnect frees control held by that client, its indications and its awaited response.": only a connected client has
 -- indications on, is awaited or holds control. "Over all clients one response at most awaits confirmation.": `awaited` is one value.
@@ -48,19 +44,19 @@ keeps Halts = false
 keeps (Stores at) = true
 keeps SpinsDown = false
 
-abbrev pub stores : Lookup → Bool
-stores (Known x) = keeps x.act
-stores Unknown = false
+abbrev pub stores : Option OpCode → Bool
+stores (Some x) = keeps x.act
+stores None = false
 
 -- "every setting is zero": as many zero octets as the parameter has
-abbrev pub zero_setting : Lookup → List ℕ
-zero_setting (Known x) = cond (keeps x.act) (replicate (size x.parameter) 0) []
-zero_setting Unknown = []
+abbrev pub zero_setting : Option OpCode → List ℕ
+zero_setting (Some x) = cond (keeps x.act) (replicate (size x.parameter) 0) []
+zero_setting None = []
 
 -- a setting is zero; or it has its right length and lies in its range, if it has one: "wrong length, value outside its range .., result 03"
-pub data Right (ranges : Ranges) : Lookup → List ℕ → Type 0 where
-  at_zero : {l : Lookup} {p : List ℕ} → p ≡ zero_setting l → Right ranges l p
-  set_to : {x : OpCode} {p : List ℕ} → length p ≡ size x.parameter → allowed ranges x.bound p ≡ true → Right ranges (Known x) p
+pub data Right (ranges : Ranges) : Option OpCode → List ℕ → Type 0 where
+  at_zero : {l : Option OpCode} {p : List ℕ} → p ≡ zero_setting l → Right ranges l p
+  set_to : {x : OpCode} {p : List ℕ} → length p ≡ size x.parameter → allowed ranges x.bound p ≡ true → Right ranges (Some x) p
 
 -- what holds for every console that calls have led to: its clients, the length of its settings, each setting, and that a run is there only while a
 -- client holds control, who is connected by the first. W-201: "Reset, disconnect of the holder or an ignore ends a run"
@@ -73,13 +69,13 @@ pub record Sound (k : Console) : Type 0 where
 -- ---- who calls, and what was granted
 
 -- who makes a call: "Calls: connect, disconnect, indications on and off, write, confirm."; no client feeds a speed
-abbrev pub by : Call → Who
-by (connect c) = Client c
-by (disconnect c) = Client c
-by (confirm c) = Client c
-by (indicate c on) = Client c
-by (write c s) = Client c
-by (flywheel v) = Nobody
+abbrev pub by : Call → Option ℕ
+by (connect c) = Some c
+by (disconnect c) = Some c
+by (confirm c) = Some c
+by (indicate c on) = Some c
+by (write c s) = Some c
+by (flywheel v) = None
 
 -- the octets after the op code: "store the parameter octets"
 abbrev pub parameter : Call → List ℕ
@@ -119,15 +115,15 @@ any f [] = false
 any f (x ∷ xs) = f x || any f xs
 
 -- who holds control that was given to this client, from what came after it
-abbrev pub unless_ended : List Event → Who → Who
-unless_ended since Nobody = Nobody
-unless_ended since (Client c) = cond (any (ends c) since) Nobody (Client c)
+abbrev pub unless_ended : List Event → Option ℕ → Option ℕ
+unless_ended since None = None
+unless_ended since (Some c) = cond (any (ends c) since) None (Some c)
 
 -- "00 gives control": the holder from what has happened, newest first, and from what came after it: the last client whose 00 succeeded, if it
 -- has had no successful reset and no disconnect since, otherwise nobody
-unfoldable pub holder_by : List Event → List Event → Who
-holder_by [] since = Nobody
-holder_by (e ∷ past) since = let before : Who = holder_by past (e ∷ since) in cond (succeeded 0x00 e) (unless_ended since (by e.call)) before
+unfoldable pub holder_by : List Event → List Event → Option ℕ
+holder_by [] since = None
+holder_by (e ∷ past) since = let before : Option ℕ = holder_by past (e ∷ since) in cond (succeeded 0x00 e) (unless_ended since (by e.call)) before
 
 -- "01 zeroes every setting", "02 to 06, 09 to 12 and 14 store the parameter octets": a setting from what has happened, newest first: the
 -- parameter of the last write of its op code that succeeded, if no reset has succeeded since, otherwise zero
@@ -156,14 +152,14 @@ pub record Unchanged (k : Console) (x : Answer Sent × Console) : Type 0 where
 
 -- the call was not made by the client that holds control, if any does
 abbrev pub ByAnother : Console → Call → Type 0
-ByAnother k q = (c : ℕ) → k.machine.holder ≡ Client c → by q ≡ Client c → ⊥
+ByAnother k q = (c : ℕ) → k.machine.holder ≡ Some c → by q ≡ Some c → ⊥
 
 -- a machine before and after a call that the holder did not make: settings, mode and what was fixed at opening stay, and so does the run, unless a speed
 -- is fed, which no client does. The holder stays, except that a 00 that succeeds gives control to its client if nobody had it: "not the holder (but for
 -- 00), 05". (A disconnect of such a client changes who is connected, its indications and its awaited response, and nothing else.)
-pub record Spared (m : Machine) (w : Who) (n : Machine) : Type 0 where
+pub record Spared (m : Machine) (w : Option ℕ) (n : Machine) : Type 0 where
   pub same_settings : n.settings ≡ m.settings
   pub same_mode : n.mode ≡ m.mode
   pub same_setup : n.setup ≡ m.setup
-  pub same_run : (n.run ≡ m.run) ⊎ (w ≡ Nobody)
-  pub holder_or_new : (n.holder ≡ m.holder) ⊎ ((m.holder ≡ Nobody) × (n.holder ≡ w))
+  pub same_run : (n.run ≡ m.run) ⊎ (w ≡ None)
+  pub holder_or_new : (n.holder ≡ m.holder) ⊎ ((m.holder ≡ None) × (n.holder ≡ w))

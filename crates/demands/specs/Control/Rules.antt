@@ -1,6 +1,6 @@
 -- Document 01's sentences on the op codes, W-201's on 13 and W-206's on the steps, as rules on their numbers. The theorems compare them with the table of op codes, for each
 -- octet from 0 to 255.
-use Rattle.std.specs.Prelude.{ℕ, zero, suc, ◌+◌, ◌-◌, ◌*◌, ◌/◌, Bool, true, false, cond, not, ◌&&◌, ◌||◌, List, [], ◌∷◌, ◌++◌, map, eqb, leb, ℤ, pos, negsuc, length, take, drop, replicate}
+use Rattle.std.specs.Prelude.{ℕ, zero, suc, ◌+◌, ◌-◌, ◌*◌, ◌/◌, Bool, true, false, cond, not, ◌&&◌, ◌||◌, List, [], ◌∷◌, ◌++◌, map, eqb, leb, ℤ, pos, negsuc, length, take, drop, replicate, Option, None, Some}
 use Rattle.std.specs.Int.Signed.{le_z}
 use Rattle.record.specs.declared.layout.Width.{Width}
 use Rattle.record.specs.declared.layout.Width.TheVariants.{U8, U16, U24, S16}
@@ -13,8 +13,6 @@ use Rattle.service.specs.declared.control.spin_down.Run.TheVariants.{Off, Quiet}
 use Rattle.service.specs.declared.control.machine.Setup.{Setup}
 use Rattle.service.specs.declared.control.machine.Mode.{Mode}
 use Rattle.service.specs.declared.control.machine.Mode.TheVariants.{Stopped, Running, Paused}
-use Rattle.service.specs.declared.control.machine.Who.{Who}
-use Rattle.service.specs.declared.control.machine.Who.TheVariants.{Nobody, Client}
 use Rattle.service.specs.Control.Machine.{is}
 
 -- k numbers from n on, and every octet
@@ -124,8 +122,8 @@ allowed r o p =
     (to 1 2 (number 1 p))
 
 -- "00 gives control; 01 .. frees control": who holds it after a client's op code has succeeded
-abbrev pub holder : ℕ → ℕ → Who → Who
-holder o c before = cond (eqb o 0x00) (Client c) (cond (eqb o 0x01) Nobody before)
+abbrev pub holder : ℕ → ℕ → Option ℕ → Option ℕ
+holder o c before = cond (eqb o 0x00) (Some c) (cond (eqb o 0x01) None before)
 
 -- "01 .. stops", "07 sets running, 08 stopped (1) or paused (2)"
 abbrev pub mode : ℕ → ℕ → Mode → Mode
@@ -169,12 +167,12 @@ running Running = true
 running Paused = false
 
 -- there is a holder, and it is not this client
-abbrev pub another : Who → ℕ → Bool
-another Nobody c = false
-another (Client d) c = not (eqb d c)
+abbrev pub another : Option ℕ → ℕ → Bool
+another None c = false
+another (Some d) c = not (eqb d c)
 
 -- what a machine was opened with, its holder, its mode and whether there is a run; a client, its op code and the parameter
-module _ (s : Setup) (h : Who) (m : Mode) (going : Bool) (c o : ℕ) (p : List ℕ) where
+module _ (s : Setup) (h : Option ℕ) (m : Mode) (going : Bool) (c o : ℕ) (p : List ℕ) where
   -- "04 when 00 finds another holder, 07 finds running, 08 with 1 finds stopped, or 08 with 2 finds anything but running": this is asked only for 08
   -- with 1 or 2, since any other parameter gives 03 before. "04 for a start during a run"
   abbrev pub fails : Bool

@@ -1,10 +1,8 @@
 -- A run of spin down from what has happened alone: the calls, the newest first, and the answers to them.
-use Rattle.std.specs.Prelude.{ℕ, ◌≡◌, Bool, true, false, cond, not, ◌&&◌, ◌||◌, List, [], ◌∷◌, ◌++◌, eqb, leb, get_or}
+use Rattle.std.specs.Prelude.{ℕ, ◌≡◌, Bool, true, false, cond, not, ◌&&◌, ◌||◌, List, [], ◌∷◌, ◌++◌, eqb, leb, get_or, Option, None, Some}
 use Rattle.record.specs.Answer.{given}
 use Rattle.record.specs.Octets.{number}
 use Rattle.service.specs.declared.control.Console.{Console}
-use Rattle.service.specs.declared.control.machine.Who.{Who}
-use Rattle.service.specs.declared.control.machine.Who.TheVariants.{Nobody, Client}
 use Rattle.service.specs.declared.control.spin_down.TargetSpeeds.{TargetSpeeds}
 use Rattle.service.specs.declared.control.spin_down.Run.{Run}
 use Rattle.service.specs.declared.control.spin_down.Run.TheVariants.{Off, Quiet, Warned}
@@ -22,18 +20,18 @@ abbrev pub ignored : Event → Bool
 ignored e = succeeded 0x13 e && eqb (number 1 (parameter e.call)) 2
 
 -- the holder's successful reset, or its disconnect
-abbrev pub lost : Who → Event → Bool
-lost Nobody e = false
-lost (Client c) e = ends c e
+abbrev pub lost : Option ℕ → Event → Bool
+lost None e = false
+lost (Some c) e = ends c e
 
 -- "Reset, disconnect of the holder or an ignore ends a run without a status of its own.": by an event, while this client holds control
-abbrev pub ended : Who → Event → Bool
+abbrev pub ended : Option ℕ → Event → Bool
 ended w e = ignored e || lost w e
 
 -- the last run that was started: whether it is on, who started it, and the speeds that were fed in it, the first one first
 pub record Led : Type 0 where
   pub on : Bool
-  pub starter : Who
+  pub starter : Option ℕ
   pub speeds : List ℕ
 
 abbrev pub at_most : ℕ → ℕ → Bool
@@ -50,13 +48,13 @@ module _ (t : TargetSpeeds) where
   feeding (flywheel v) r = cond r.on (record { on = not (at_most t.low v); starter = r.starter; speeds = r.speeds ++ v ∷ [] }) r
 
   -- the last run after one more event, while this client holds control
-  abbrev pub next_led : Who → Event → Led → Led
+  abbrev pub next_led : Option ℕ → Event → Led → Led
   next_led w e before =
       cond (started e) (record { on = true; starter = by e.call; speeds = [] })
       (cond (ended w e) (record { on = false; starter = before.starter; speeds = before.speeds }) (feeding e.call before))
 
   unfoldable pub led_by : List Event → Led
-  led_by [] = record { on = false; starter = Nobody; speeds = [] }
+  led_by [] = record { on = false; starter = None; speeds = [] }
   led_by (e ∷ past) = next_led (holder_by past []) e (led_by past)
 
   -- the run that is on has said 4 if it was fed a speed at or below high

@@ -1,7 +1,6 @@
 -- Sequences of calls, each row from the state that the row before it leads to; and each setting, alone and with all others.
-use Rattle.std.specs.Prelude.{ℕ, true, false, List, [], ◌∷◌, ◌++◌}
+use Rattle.std.specs.Prelude.{ℕ, true, false, List, [], ◌∷◌, ◌++◌, None, Some}
 use Rattle.service.specs.declared.control.machine.Mode.TheVariants.{Stopped, Running, Paused}
-use Rattle.service.specs.declared.control.machine.Who.TheVariants.{Nobody, Client}
 use Rattle.service.specs.Control.Replies.{sent}
 use Rattle.demands.specs.Control.Point.{Call, connect, disconnect, confirm, indicate, write}
 use Rattle.demands.specs.Control.Cases.{ready, asks, holds}
@@ -25,70 +24,70 @@ only c = c ∷ []
 -- with indications off
 abbrev pub off_while_due : Table
 off_while_due =
-    table (able fair) [] (sent [] []) (state Stopped Nobody Nobody [] [] [])
-    ((connect 0 leaves state Stopped Nobody Nobody (only 0) [] []) ∷
-    (indicate 0 true leaves state Stopped Nobody Nobody (only 0) (only 0) []) ∷
-    (connect 1 leaves state Stopped Nobody Nobody both (only 0) []) ∷
-    (indicate 1 true leaves state Stopped Nobody Nobody both both []) ∷
-    said 0 0x00 [] 0x01 [] (state Stopped (Client 0) (Client 0) both both []) ∷
-    (indicate 0 false leaves state Stopped (Client 0) (Client 0) both (only 1) []) ∷
-    (write 1 (0x00 ∷ []) is_refused 20 leaving state Stopped (Client 0) (Client 0) both (only 1) []) ∷
-    (write 0 (0x07 ∷ []) is_refused 19 leaving state Stopped (Client 0) (Client 0) both (only 1) []) ∷
-    (indicate 0 true leaves state Stopped (Client 0) (Client 0) both both []) ∷
-    (write 0 (0x07 ∷ []) is_refused 20 leaving state Stopped (Client 0) (Client 0) both both []) ∷
-    (indicate 0 false leaves state Stopped (Client 0) (Client 0) both (only 1) []) ∷
-    (confirm 1 is_refused 21 leaving state Stopped (Client 0) (Client 0) both (only 1) []) ∷
-    (confirm 0 leaves state Stopped (Client 0) Nobody both (only 1) []) ∷
-    (confirm 0 is_refused 21 leaving state Stopped (Client 0) Nobody both (only 1) []) ∷
-    said 1 0x00 [] 0x04 [] (state Stopped (Client 0) (Client 1) both (only 1) []) ∷ [])
+    table (able fair) [] (sent [] []) (state Stopped None None [] [] [])
+    ((connect 0 leaves state Stopped None None (only 0) [] []) ∷
+    (indicate 0 true leaves state Stopped None None (only 0) (only 0) []) ∷
+    (connect 1 leaves state Stopped None None both (only 0) []) ∷
+    (indicate 1 true leaves state Stopped None None both both []) ∷
+    said 0 0x00 [] 0x01 [] (state Stopped (Some 0) (Some 0) both both []) ∷
+    (indicate 0 false leaves state Stopped (Some 0) (Some 0) both (only 1) []) ∷
+    (write 1 (0x00 ∷ []) is_refused 20 leaving state Stopped (Some 0) (Some 0) both (only 1) []) ∷
+    (write 0 (0x07 ∷ []) is_refused 19 leaving state Stopped (Some 0) (Some 0) both (only 1) []) ∷
+    (indicate 0 true leaves state Stopped (Some 0) (Some 0) both both []) ∷
+    (write 0 (0x07 ∷ []) is_refused 20 leaving state Stopped (Some 0) (Some 0) both both []) ∷
+    (indicate 0 false leaves state Stopped (Some 0) (Some 0) both (only 1) []) ∷
+    (confirm 1 is_refused 21 leaving state Stopped (Some 0) (Some 0) both (only 1) []) ∷
+    (confirm 0 leaves state Stopped (Some 0) None both (only 1) []) ∷
+    (confirm 0 is_refused 21 leaving state Stopped (Some 0) None both (only 1) []) ∷
+    said 1 0x00 [] 0x04 [] (state Stopped (Some 0) (Some 1) both (only 1) []) ∷ [])
 
 -- "Disconnect frees control held by that client, its indications and its awaited response.": of no other client; the machine runs on with its settings
 abbrev pub clients_leave : Table
 clients_leave =
     table (able fair) (holds 0 ++ asks 0 (0x02 ∷ 0xe8 ∷ 0x03 ∷ []) ++ asks 0 (0x07 ∷ []) ++ ready 1 ++ write 1 (0x07 ∷ []) ∷ [])
-    (sent (0x80 ∷ 0x07 ∷ 0x05 ∷ []) []) (state Running (Client 0) (Client 1) both both fast)
-    ((disconnect 0 leaves state Running Nobody (Client 1) (only 1) (only 1) fast) ∷
-    (connect 0 leaves state Running Nobody (Client 1) both (only 1) fast) ∷
-    (indicate 0 true leaves state Running Nobody (Client 1) both both fast) ∷
-    (write 0 (0x07 ∷ []) is_refused 20 leaving state Running Nobody (Client 1) both both fast) ∷
-    (disconnect 1 leaves state Running Nobody Nobody (only 0) (only 0) fast) ∷
-    said 0 0x07 [] 0x05 [] (state Running Nobody (Client 0) (only 0) (only 0) fast) ∷
-    (connect 1 leaves state Running Nobody (Client 0) both (only 0) fast) ∷
-    (confirm 1 is_refused 21 leaving state Running Nobody (Client 0) both (only 0) fast) ∷
-    (confirm 0 leaves state Running Nobody Nobody both (only 0) fast) ∷
-    (write 1 (0x00 ∷ []) is_refused 19 leaving state Running Nobody Nobody both (only 0) fast) ∷
-    (indicate 1 true leaves state Running Nobody Nobody both both fast) ∷
-    said 1 0x00 [] 0x01 [] (state Running (Client 1) (Client 1) both both fast) ∷
-    (disconnect 0 leaves state Running (Client 1) (Client 1) (only 1) (only 1) fast) ∷
-    (confirm 1 leaves state Running (Client 1) Nobody (only 1) (only 1) fast) ∷
-    said 1 0x07 [] 0x04 [] (state Running (Client 1) (Client 1) (only 1) (only 1) fast) ∷
-    (confirm 1 leaves state Running (Client 1) Nobody (only 1) (only 1) fast) ∷
-    said 1 0x08 (2 ∷ []) 0x01 (0x02 ∷ 2 ∷ []) (state Paused (Client 1) (Client 1) (only 1) (only 1) fast) ∷
-    (disconnect 1 leaves state Paused Nobody Nobody [] [] fast) ∷
-    (connect 1 leaves state Paused Nobody Nobody (only 1) [] fast) ∷ [])
+    (sent (0x80 ∷ 0x07 ∷ 0x05 ∷ []) []) (state Running (Some 0) (Some 1) both both fast)
+    ((disconnect 0 leaves state Running None (Some 1) (only 1) (only 1) fast) ∷
+    (connect 0 leaves state Running None (Some 1) both (only 1) fast) ∷
+    (indicate 0 true leaves state Running None (Some 1) both both fast) ∷
+    (write 0 (0x07 ∷ []) is_refused 20 leaving state Running None (Some 1) both both fast) ∷
+    (disconnect 1 leaves state Running None None (only 0) (only 0) fast) ∷
+    said 0 0x07 [] 0x05 [] (state Running None (Some 0) (only 0) (only 0) fast) ∷
+    (connect 1 leaves state Running None (Some 0) both (only 0) fast) ∷
+    (confirm 1 is_refused 21 leaving state Running None (Some 0) both (only 0) fast) ∷
+    (confirm 0 leaves state Running None None both (only 0) fast) ∷
+    (write 1 (0x00 ∷ []) is_refused 19 leaving state Running None None both (only 0) fast) ∷
+    (indicate 1 true leaves state Running None None both both fast) ∷
+    said 1 0x00 [] 0x01 [] (state Running (Some 1) (Some 1) both both fast) ∷
+    (disconnect 0 leaves state Running (Some 1) (Some 1) (only 1) (only 1) fast) ∷
+    (confirm 1 leaves state Running (Some 1) None (only 1) (only 1) fast) ∷
+    said 1 0x07 [] 0x04 [] (state Running (Some 1) (Some 1) (only 1) (only 1) fast) ∷
+    (confirm 1 leaves state Running (Some 1) None (only 1) (only 1) fast) ∷
+    said 1 0x08 (2 ∷ []) 0x01 (0x02 ∷ 2 ∷ []) (state Paused (Some 1) (Some 1) (only 1) (only 1) fast) ∷
+    (disconnect 1 leaves state Paused None None [] [] fast) ∷
+    (connect 1 leaves state Paused None None (only 1) [] fast) ∷ [])
 
 -- "01 zeroes every setting, stops and frees control": the former holder is answered 05, and the next one starts a machine that is stopped
 abbrev pub resetting : Table
 resetting =
     table (able fair) (holds 0 ++ asks 0 (0x02 ∷ 0xe8 ∷ 0x03 ∷ []) ++ asks 0 (0x14 ∷ 7 ∷ 0 ∷ []) ++ asks 0 (0x07 ∷ []) ++ ready 1) (sent [] [])
-    (state Running (Client 0) Nobody both both (fast ++ (0x14, 7 ∷ 0 ∷ []) ∷ []))
-    (said 0 0x01 [] 0x01 (0x01 ∷ []) (state Stopped Nobody (Client 0) both both []) ∷
-    (confirm 0 leaves state Stopped Nobody Nobody both both []) ∷
-    said 0 0x07 [] 0x05 [] (state Stopped Nobody (Client 0) both both []) ∷
-    (confirm 0 leaves state Stopped Nobody Nobody both both []) ∷
-    said 0 0x02 (0xe8 ∷ 0x03 ∷ []) 0x05 [] (state Stopped Nobody (Client 0) both both []) ∷
-    (confirm 0 leaves state Stopped Nobody Nobody both both []) ∷
-    said 0 0x01 [] 0x05 [] (state Stopped Nobody (Client 0) both both []) ∷
-    (confirm 0 leaves state Stopped Nobody Nobody both both []) ∷
-    said 1 0x00 [] 0x01 [] (state Stopped (Client 1) (Client 1) both both []) ∷
-    (confirm 1 leaves state Stopped (Client 1) Nobody both both []) ∷
-    said 1 0x08 (1 ∷ []) 0x04 [] (state Stopped (Client 1) (Client 1) both both []) ∷
-    (confirm 1 leaves state Stopped (Client 1) Nobody both both []) ∷
-    said 1 0x07 [] 0x01 (0x04 ∷ []) (state Running (Client 1) (Client 1) both both []) ∷
-    (confirm 1 leaves state Running (Client 1) Nobody both both []) ∷
-    said 1 0x08 (2 ∷ []) 0x01 (0x02 ∷ 2 ∷ []) (state Paused (Client 1) (Client 1) both both []) ∷
-    (confirm 1 leaves state Paused (Client 1) Nobody both both []) ∷
-    said 1 0x01 [] 0x01 (0x01 ∷ []) (state Stopped Nobody (Client 1) both both []) ∷ [])
+    (state Running (Some 0) None both both (fast ++ (0x14, 7 ∷ 0 ∷ []) ∷ []))
+    (said 0 0x01 [] 0x01 (0x01 ∷ []) (state Stopped None (Some 0) both both []) ∷
+    (confirm 0 leaves state Stopped None None both both []) ∷
+    said 0 0x07 [] 0x05 [] (state Stopped None (Some 0) both both []) ∷
+    (confirm 0 leaves state Stopped None None both both []) ∷
+    said 0 0x02 (0xe8 ∷ 0x03 ∷ []) 0x05 [] (state Stopped None (Some 0) both both []) ∷
+    (confirm 0 leaves state Stopped None None both both []) ∷
+    said 0 0x01 [] 0x05 [] (state Stopped None (Some 0) both both []) ∷
+    (confirm 0 leaves state Stopped None None both both []) ∷
+    said 1 0x00 [] 0x01 [] (state Stopped (Some 1) (Some 1) both both []) ∷
+    (confirm 1 leaves state Stopped (Some 1) None both both []) ∷
+    said 1 0x08 (1 ∷ []) 0x04 [] (state Stopped (Some 1) (Some 1) both both []) ∷
+    (confirm 1 leaves state Stopped (Some 1) None both both []) ∷
+    said 1 0x07 [] 0x01 (0x04 ∷ []) (state Running (Some 1) (Some 1) both both []) ∷
+    (confirm 1 leaves state Running (Some 1) None both both []) ∷
+    said 1 0x08 (2 ∷ []) 0x01 (0x02 ∷ 2 ∷ []) (state Paused (Some 1) (Some 1) both both []) ∷
+    (confirm 1 leaves state Paused (Some 1) None both both []) ∷
+    said 1 0x01 [] 0x01 (0x01 ∷ []) (state Stopped None (Some 1) both both []) ∷ [])
 
 -- all sixteen settings, one after the other, and then a reset
 abbrev pub sixteen : Settings
@@ -105,7 +104,7 @@ asks_all (x ∷ xs) = asks 0 (x.0 ∷ x.1) ++ asks_all xs
 abbrev pub all_settings : Table
 all_settings =
     table (able fair) (holds 0 ++ asks_all sixteen) (sent [] []) (standing sixteen)
-    (said 0 0x01 [] 0x01 (0x01 ∷ []) (state Stopped Nobody (Client 0) (only 0) (only 0) []) ∷ [])
+    (said 0 0x01 [] 0x01 (0x01 ∷ []) (state Stopped None (Some 0) (only 0) (only 0) []) ∷ [])
 
 abbrev pub courses : List Table
 courses = off_while_due ∷ clients_leave ∷ resetting ∷ all_settings ∷ []

@@ -1,9 +1,8 @@
 -- The five ranges at both ends and beyond each: "Ranges (least, greatest, both allowed)", "value outside its range .., result 03", "02 to 06 ..
 -- store the parameter octets".
-use Rattle.std.specs.Prelude.{ℕ, suc, cond, List, [], ◌∷◌, ◌++◌, map, eqb, ℤ, pos, negsuc, replicate}
+use Rattle.std.specs.Prelude.{ℕ, suc, cond, List, [], ◌∷◌, ◌++◌, map, eqb, ℤ, pos, negsuc, replicate, None, Some}
 use Rattle.service.specs.declared.control.ranges.Ranges.{Ranges}
 use Rattle.service.specs.declared.control.machine.Mode.TheVariants.{Stopped}
-use Rattle.service.specs.declared.control.machine.Who.TheVariants.{Nobody, Client}
 use Rattle.service.specs.Control.Replies.{sent}
 use Rattle.service.specs.Control.Calls.{Opening, opening}
 use Rattle.demands.specs.Control.Point.{write}
@@ -32,7 +31,7 @@ abbrev pub changed : ℕ → List ℕ → Settings → Settings
 changed o p s = map (λ x. cond (eqb x.0 o) (o, p) x) s
 
 abbrev pub stored : Settings → State
-stored s = state Stopped (Client 0) (Client 0) (0 ∷ []) (0 ∷ []) s
+stored s = state Stopped (Some 0) (Some 0) (0 ∷ []) (0 ∷ []) s
 
 -- a write that is accepted: its status octet, and the settings after it; or one with result 03, which leaves them
 abbrev pub takes : ℕ → List ℕ → ℕ → Settings → Row
@@ -42,7 +41,7 @@ abbrev pub declines : ℕ → List ℕ → Settings → Row
 declines o p s = row (write 0 (o ∷ p)) (sent (0x80 ∷ o ∷ 0x03 ∷ []) []) (stored s)
 
 abbrev pub standing : Settings → State
-standing s = state Stopped (Client 0) Nobody (0 ∷ []) (0 ∷ []) s
+standing s = state Stopped (Some 0) None (0 ∷ []) (0 ∷ []) s
 
 -- speed 100 to 2,000, inclination −100 to 150, resistance 5 to 50, power −500 to 1,200, heart rate 60 to 200; set to 1,000, 10, 20, −1, 120
 abbrev pub middle : Settings

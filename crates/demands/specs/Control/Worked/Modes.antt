@@ -1,9 +1,8 @@
 -- Each mode against 07 and 08: "04 when .. 07 finds running, 08 with 1 finds stopped, or 08 with 2 finds anything but running; else 01", "07 sets
 -- running, 08 stopped (1) or paused (2)", "07 gives 04; 08 gives 02 and its parameter".
-use Rattle.std.specs.Prelude.{ℕ, List, [], ◌∷◌, ◌++◌}
+use Rattle.std.specs.Prelude.{ℕ, List, [], ◌∷◌, ◌++◌, None, Some}
 use Rattle.service.specs.declared.control.machine.Mode.{Mode}
 use Rattle.service.specs.declared.control.machine.Mode.TheVariants.{Stopped, Running, Paused}
-use Rattle.service.specs.declared.control.machine.Who.TheVariants.{Nobody, Client}
 use Rattle.service.specs.Control.Replies.{sent}
 use Rattle.service.specs.Control.Calls.{Opening, opening}
 use Rattle.demands.specs.Control.Point.{write}
@@ -16,10 +15,10 @@ bare = opening (0 ∷ 0 ∷ 0 ∷ 0 ∷ 0 ∷ 0 ∷ 0 ∷ 0 ∷ []) ranges speed
 
 -- client 0 holds control and nothing is due; or its response awaits confirmation
 abbrev pub quiet : Mode → State
-quiet m = state m (Client 0) Nobody (0 ∷ []) (0 ∷ []) []
+quiet m = state m (Some 0) None (0 ∷ []) (0 ∷ []) []
 
 abbrev pub due : Mode → State
-due m = state m (Client 0) (Client 0) (0 ∷ []) (0 ∷ []) []
+due m = state m (Some 0) (Some 0) (0 ∷ []) (0 ∷ []) []
 
 -- a write that succeeds, with its status octets and the mode after it; and one that changes only whose response is awaited
 abbrev pub succeeds : ℕ → List ℕ → List ℕ → Mode → Row

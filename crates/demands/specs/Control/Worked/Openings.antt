@@ -1,11 +1,10 @@
 -- Opening a machine: "22: Feature value not 8 octets", "16: some range has least above greatest", "opening a machine 22, 16"; W-201: "16 also when the
 -- low target is not below the high one"; W-206: "16 also for an increment of 0".
-use Rattle.std.specs.Prelude.{ℕ, List, [], ◌∷◌, map, pos, negsuc, replicate}
+use Rattle.std.specs.Prelude.{ℕ, List, [], ◌∷◌, map, pos, negsuc, replicate, None}
 use Rattle.record.specs.Answer.{Answer, refused, given}
 use Rattle.service.specs.declared.control.Console.{Console}
 use Rattle.service.specs.declared.control.ranges.Ranges.{Ranges}
 use Rattle.service.specs.declared.control.machine.Mode.TheVariants.{Stopped}
-use Rattle.service.specs.declared.control.machine.Who.TheVariants.{Nobody}
 use Rattle.service.specs.Control.Calls.{Opening, opening, opened}
 use Rattle.demands.specs.Control.Cases.{speeds}
 use Rattle.demands.specs.Control.Worked.Seen.{State, state, state_of}
@@ -41,7 +40,7 @@ abbrev pub ◌opens◌ : Opening → Answer State → Case
 infix 5 ◌opens◌
 -- "At first it is stopped, no client is connected, nobody holds control, and every setting is zero."
 abbrev pub at_first : Answer State
-at_first = given (state Stopped Nobody Nobody [] [] [])
+at_first = given (state Stopped None None [] [] [])
 
 -- each range alone reversed, by one and by sign, with all target settings, speed's with none too; ranges of one number; the Feature value's length; low
 -- and high, with all target settings and with none; each increment alone 0, with all target settings and with none; one of 0 in a reversed range and in a

@@ -1,8 +1,7 @@
 -- Writes with more than one thing wrong, and of a wrong length: "unsupported op code, result 02; not the holder (but for 00), 05; wrong length, .. result
 -- 03; then 04 when ..".
-use Rattle.std.specs.Prelude.{ℕ, ◌-◌, true, false, List, [], ◌∷◌, ◌++◌, length, take, replicate}
+use Rattle.std.specs.Prelude.{ℕ, ◌-◌, true, false, List, [], ◌∷◌, ◌++◌, length, take, replicate, None, Some}
 use Rattle.service.specs.declared.control.machine.Mode.TheVariants.{Running}
-use Rattle.service.specs.declared.control.machine.Who.TheVariants.{Nobody, Client}
 use Rattle.service.specs.Control.Replies.{sent}
 use Rattle.service.specs.Control.Calls.{opening}
 use Rattle.demands.specs.Control.Point.{connect, disconnect, confirm, indicate, write}
@@ -15,11 +14,11 @@ use Rattle.demands.specs.Control.Worked.Courses.{both, sixteen, said}
 
 -- client 0 holds control of a machine that runs, client 1 does not; nothing is due
 abbrev pub running : State
-running = state Running (Client 0) Nobody both both []
+running = state Running (Some 0) None both both []
 
 -- a write that is answered with a result, and changes nothing else
 abbrev pub answers : ℕ → ℕ → List ℕ → ℕ → Row
-answers c o p r = said c o p r [] (state Running (Client 0) (Client c) both both [])
+answers c o p r = said c o p r [] (state Running (Some 0) (Some c) both both [])
 
 abbrev pub order : Table
 order =

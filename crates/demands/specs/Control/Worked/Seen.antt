@@ -1,10 +1,9 @@
 -- What a worked case says: a call, the answer to it, and the state after it.
-use Rattle.std.specs.Prelude.{ℕ, Bool, true, cond, ◌&&◌, List, [], ◌∷◌, map, eqb}
+use Rattle.std.specs.Prelude.{ℕ, Bool, true, cond, ◌&&◌, List, [], ◌∷◌, map, eqb, Option}
 use Rattle.record.specs.Answer.{Answer, refused, given}
 use Rattle.service.specs.declared.control.Console.{Console}
 use Rattle.service.specs.declared.control.machine.Machine.{Machine}
 use Rattle.service.specs.declared.control.machine.Mode.{Mode}
-use Rattle.service.specs.declared.control.machine.Who.{Who}
 use Rattle.service.specs.declared.control.spin_down.Run.{Run}
 use Rattle.service.specs.declared.control.spin_down.Run.TheVariants.{Off}
 use Rattle.service.specs.Control.Effects.{setting}
@@ -17,15 +16,15 @@ use Rattle.demands.specs.Control.Rules.{counting, picked, storing}
 -- mode, holder, whose response awaits, who is connected, whose indications are on, the settings that are not zero, by their op codes, and the run
 pub record State : Type 0 where
   pub mode : Mode
-  pub holder : Who
-  pub awaited : Who
+  pub holder : Option ℕ
+  pub awaited : Option ℕ
   pub connected : List ℕ
   pub indicating : List ℕ
   pub settings : List (ℕ × List ℕ)
   pub run : Run
 
 -- a state without a run, and one with this run
-abbrev pub state : Mode → Who → Who → List ℕ → List ℕ → List (ℕ × List ℕ) → State
+abbrev pub state : Mode → Option ℕ → Option ℕ → List ℕ → List ℕ → List (ℕ × List ℕ) → State
 state m h w c i s = record { mode = m; holder = h; awaited = w; connected = c; indicating = i; settings = s; run = Off }
 
 abbrev pub in_run : Run → State → State

@@ -1,9 +1,8 @@
 -- Targets on and off the steps. W-206: "A target is allowed when it is in the range and its distance from the least value is a multiple of the
 -- increment.", "result 03 also for a target off the steps", "Reset still sets zero, whether or not zero is allowed."
-use Rattle.std.specs.Prelude.{ℕ, List, [], ◌∷◌, ◌++◌, pos, negsuc}
+use Rattle.std.specs.Prelude.{ℕ, List, [], ◌∷◌, ◌++◌, pos, negsuc, None, Some}
 use Rattle.service.specs.declared.control.ranges.Ranges.{Ranges}
 use Rattle.service.specs.declared.control.machine.Mode.TheVariants.{Stopped}
-use Rattle.service.specs.declared.control.machine.Who.TheVariants.{Nobody, Client}
 use Rattle.service.specs.Control.Replies.{sent}
 use Rattle.demands.specs.Control.Point.{write, confirm}
 use Rattle.demands.specs.Control.Cases.{asks, holds}
@@ -149,8 +148,8 @@ resets =
     row (confirm 0) (sent [] []) (standing ((0x02, 0xf2 ∷ 0x03 ∷ []) ∷ [])) ∷
     declines 0x02 (0xed ∷ 0x03 ∷ []) ((0x02, 0xf2 ∷ 0x03 ∷ []) ∷ []) ∷
     row (confirm 0) (sent [] []) (standing ((0x02, 0xf2 ∷ 0x03 ∷ []) ∷ [])) ∷
-    row (write 0 (0x01 ∷ [])) (sent (0x80 ∷ 0x01 ∷ 0x01 ∷ []) (0x01 ∷ [])) (state Stopped Nobody (Client 0) (0 ∷ []) (0 ∷ []) []) ∷
-    row (confirm 0) (sent [] []) (state Stopped Nobody Nobody (0 ∷ []) (0 ∷ []) []) ∷
+    row (write 0 (0x01 ∷ [])) (sent (0x80 ∷ 0x01 ∷ 0x01 ∷ []) (0x01 ∷ [])) (state Stopped None (Some 0) (0 ∷ []) (0 ∷ []) []) ∷
+    row (confirm 0) (sent [] []) (state Stopped None None (0 ∷ []) (0 ∷ []) []) ∷
     row (write 0 (0x00 ∷ [])) (sent (0x80 ∷ 0x00 ∷ 0x01 ∷ []) []) (stored []) ∷
     row (confirm 0) (sent [] []) (standing []) ∷
     declines 0x02 (0x00 ∷ 0x00 ∷ []) [] ∷ [])
