@@ -3,7 +3,7 @@ ghost use Rattle.std.specs.Prelude.{◌≡◌, [], ◌∷◌};
 ghost use Rattle.service.specs.Control.Counted.{boxed};
 ghost use Rattle.service.specs.Control.SpinDown.{in_order, starts_run, spun_to, said_at, run_at};
 
-use crate::control::counted::{Counted, none, two};
+use crate::control::counted::Counted;
 use crate::control::op_codes::Act;
 
 // The two target speeds of a run, "fixed when the machine is opened".
@@ -59,7 +59,7 @@ fn silent(run: Run) -> Fed
     ensures { result ≡ record { status = boxed []; run = run } }
 {
     Fed {
-        status: none(),
+        status: Counted::of(&[]),
         run,
     }
 }
@@ -69,7 +69,7 @@ fn saying(value: u8, run: Run) -> Fed
     ensures { result ≡ record { status = boxed (0x14 ∷ value ∷ []); run = run } }
 {
     Fed {
-        status: two(0x14, value),
+        status: Counted::of(&[0x14, value]),
         run,
     }
 }
