@@ -106,6 +106,7 @@ fn closed() -> Console
 
 impl Console {
     // Opens a console with the octets of a Feature value, the machine's ranges and its target speeds; refuses with 22, then 16.
+    #[tactic(auto, unfolding(crate::specs::Control::Calls::opened))]
     pub fn open(feature: &[u8], ranges: Ranges, speeds: TargetSpeeds) -> Reply
         ensures { Says result (opens (opening feature.now ranges speeds)) }
     {
