@@ -8,8 +8,8 @@ use Rattle.record.proofs.RefusalLaws.{number_once}
 use Rattle.service.specs.declared.collector.Collection.{Collection}
 use Rattle.service.specs.declared.collector.Collected.{Collected}
 use Rattle.service.specs.declared.collector.Collected.TheVariants as answers
-use Rattle.service.specs.declared.collector.Opening.{Opening}
-use Rattle.service.specs.declared.collector.Opening.TheVariants as openings
+use Rattle.std.specs.Prelude.{Result, Ok, Err}
+use Rattle.record.specs.declared.refusal.Refusal.{Refusal}
 use Rattle.service.specs.Collector.{Said, meant, meant_opening}
 use Rattle.service.proofs.Said.{tag, same_waiting, same_record, same_dropped, same_number, same_refused}
 use Rattle.service.proofs.collector.open.Reads as open_reads
@@ -37,12 +37,12 @@ collect_once κs a x y s t p q =
     let e : x.answer ≡ y.answer = collected_meant x.answer y.answer (p.0 ∙ sym q.0) in
     let n : x.next ≡ y.next = p.1 ∙ sym q.1 in λ i. record { answer = e i; next = n i }
 
-opening_meant : (a b : Opening) (c d : Collection) →
+opening_meant : (a b : Result (Unit {0}) Refusal) (c d : Collection) →
     meant_opening (record { answer = a; collection = c }) ≡ meant_opening (record { answer = b; collection = d }) → a ≡ b
-opening_meant openings.Opened openings.Opened c d e = refl
-opening_meant openings.Opened (openings.Refused n) c d e = absurd (never c (number_of n) e)
-opening_meant (openings.Refused m) openings.Opened c d e = absurd (never d (number_of m) (sym e))
-opening_meant (openings.Refused m) (openings.Refused n) c d e = ap openings.Refused (number_once m n (number_same (number_of m) (number_of n) e))
+opening_meant (Ok x) (Ok y) c d e = refl
+opening_meant (Ok x) (Err n) c d e = absurd (never c (number_of n) e)
+opening_meant (Err m) (Ok y) c d e = absurd (never d (number_of m) (sym e))
+opening_meant (Err m) (Err n) c d e = ap Err (number_once m n (number_same (number_of m) (number_of n) e))
 
 pub open_once : Once open_reads.Post
 open_once κs a x y s t p q =

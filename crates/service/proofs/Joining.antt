@@ -4,14 +4,12 @@ use mathlib.Core.Path.{◌≡◌, refl, sym, ap, subst}
 use mathlib.Core.Bool.{Bool, true, false, cond}
 use mathlib.Core.List.{List}
 use lib.Bits.{bit_or}
-use lib.Dec.{leb}
 use Rattle.record.specs.declared.notification.Part.{Part}
 use Rattle.record.specs.Answer.{Answer, given, after}
 use Rattle.record.specs.Notification.{part_of, joined, held_after}
 use Rattle.record.specs.Record.{of_wire}
 use Rattle.service.specs.declared.collector.Collection.{Collection}
-use Rattle.service.specs.declared.collector.Told.{Told}
-use Rattle.service.specs.Collector.{Stepped, waiting, handed, zeros, collection, empty, incomplete, outside, drops, after_refusal, refuses, joins, collect}
+use Rattle.service.specs.Collector.{Stepped, waiting, handed, zeros, collection, empty, incomplete, outside, drops, refuses, joins, collect}
 
 -- the numbers after a notification that is read
 pub read_joins : (kind : ℕ) (s v : List ℕ) (p : Part) → part_of kind s ≡ given p → held_after kind s v ≡ joined kind s v
@@ -50,15 +48,6 @@ module _ (c : Collection) (p : Part) (s : List ℕ) (dropped : Bool) where
       go false missing l i = subst P (sym (waits l)) (waits_on l)
       go true true l i = subst P (sym (lacks l i)) is-lacking
       go true false l i = subst P (sym (hands l i)) (hands_out l)
-
--- the collection after a refusal, by the held groups and the numbers after it
-pub refused_after : (k : ℕ) (t : Told) (h : ℕ) (v : List ℕ) (n : ℕ) →
-    collection k t (cond (leb n 22) h 0) (cond (leb n 22) v zeros) ≡ after_refusal (collection k t h v) n
-refused_after k t h v n = either (leb n 22)
-  where
-    either : (b : Bool) → collection k t (cond b h 0) (cond b v zeros) ≡ cond b (collection k t h v) (empty k t)
-    either true = refl
-    either false = refl
 
 module _ (c : Collection) (s : List ℕ) where
   pub not_read : (n : ℕ) → part_of c.kind s ≡ Rattle.record.specs.Answer.refused n → collect c s ≡ refuses c n

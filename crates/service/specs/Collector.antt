@@ -1,5 +1,5 @@
 -- Collecting, by document 01's rules.
-use Rattle.std.specs.Prelude.{ℕ, zero, suc, ◌*◌, ◌/◌, ◌%◌, Bool, true, false, cond, not, List, eqb, leb, replicate}
+use Rattle.std.specs.Prelude.{ℕ, zero, suc, ◌*◌, ◌/◌, ◌%◌, Bool, true, false, cond, not, List, eqb, leb, replicate, Result, Ok, Err}
 use Rattle.std.specs.Int.Bits.{bit_and, bit_or}
 use Rattle.record.specs.declared.notification.Part.{Part}
 use Rattle.record.specs.declared.record.Record.{Record}
@@ -7,12 +7,12 @@ use Rattle.record.specs.Answer.{Answer, given, provided}
 use Rattle.record.specs.Groups.{known, listed, within}
 use Rattle.record.specs.Notification.{part_of, joined}
 use Rattle.record.specs.Record.{of_wire}
+use Rattle.record.specs.declared.refusal.Refusal.{Refusal}
+use Rattle.record.specs.declared.refusal.Refusal.TheVariants.{UnknownKind, ToldSetUnlisted}
 use Rattle.record.specs.Refusal.{number_of}
 use Rattle.service.specs.declared.collector.Told.{Told}
 use Rattle.service.specs.declared.collector.Told.TheVariants.{Open, Fixed}
 use Rattle.service.specs.declared.collector.Collection.{Collection}
-use Rattle.service.specs.declared.collector.Opening.{Opening}
-use Rattle.service.specs.declared.collector.Opening.TheVariants as openings
 use Rattle.service.specs.declared.collector.Opened.{Opened}
 use Rattle.service.specs.declared.collector.Collected.{Collected}
 use Rattle.service.specs.declared.collector.Collected.TheVariants as answers
@@ -31,9 +31,9 @@ meant (answers.Refused x d) = refused (number_of x) d
 abbrev pub meant_opening : Opened → Answer Collection
 meant_opening r = opened r.answer
   where
-    opened : Opening → Answer Collection
-    opened openings.Opened = given r.collection
-    opened (openings.Refused x) = Answer.refused (number_of x)
+    opened : Result (Unit {0}) Refusal → Answer Collection
+    opened (Ok done) = given r.collection
+    opened (Err x) = Answer.refused (number_of x)
 
 -- an answer, and the collection after it
 pub record Stepped : Type 0 where
@@ -105,6 +105,10 @@ module _ (c : Collection) where
 abbrev pub told_known : ℕ → Told → Bool
 told_known kind Open = true
 told_known kind (Fixed set) = within set (listed kind)
+
+-- "opening a collection 11, 35", in words of the code
+abbrev pub opening : ℕ → Told → Result (Unit {0}) Refusal
+opening kind told = cond (known kind) (cond (told_known kind told) (Ok tt) (Err ToldSetUnlisted)) (Err UnknownKind)
 
 -- "opening a collection 11, 35": a collection that holds nothing
 unfoldable pub opens : ℕ → Told → Answer Collection

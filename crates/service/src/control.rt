@@ -18,7 +18,7 @@ ghost use Rattle.service.specs.Control.Console as ConsoleSpecs;
 ghost use Rattle.service.specs.Control.Replies.{Says, refuses, accepts};
 ghost use Rattle.service.specs.Control.Calls.{opening, opens, connects, disconnects, indicates, confirms, answers, writes, feeds};
 
-use crate::control::counted::{Counted, none};
+use crate::control::counted::Counted;
 use crate::control::effects::{perform, setting};
 use crate::control::machine::{Machine, Setup, without};
 use crate::control::ranges::Ranges;
@@ -58,7 +58,7 @@ const ABSENT: Client = Client {
 fn refused(console: Console, why: Refusal) -> Reply
     ensures { Says result (refuses console (number_of why)) }
 {
-    let nothing = none();
+    let nothing = Counted::of(&[]);
     Reply {
         outcome: Err(why),
         response: nothing,
@@ -70,7 +70,7 @@ fn refused(console: Console, why: Refusal) -> Reply
 fn accepted(console: Console) -> Reply
     ensures { Says result (accepts console) }
 {
-    let nothing = none();
+    let nothing = Counted::of(&[]);
     Reply {
         outcome: Ok(()),
         response: nothing,
@@ -106,6 +106,7 @@ fn closed() -> Console
 
 impl Console {
     // Opens a console with the octets of a Feature value, the machine's ranges and its target speeds; refuses with 22, then 16.
+    #[tactic(auto, unfolding(crate::specs::Control::Calls::opened))]
     pub fn open(feature: &[u8], ranges: Ranges, speeds: TargetSpeeds) -> Reply
         ensures { Says result (opens (opening feature.now ranges speeds)) }
     {
@@ -257,7 +258,7 @@ impl Console {
         let fed = feed(machine.setup.speeds, machine.run, speed);
         Reply {
             outcome: Ok(()),
-            response: none(),
+            response: Counted::of(&[]),
             status: fed.status,
             console: Console {
                 machine: machine.spinning(fed.run),

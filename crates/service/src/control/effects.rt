@@ -6,7 +6,7 @@ ghost use Rattle.service.specs.Control.SpinDown.{followed_by};
 ghost use Rattle.service.specs.Control.Effects.{Room, response_octets, halted_to, status_octets, performs};
 ghost use Rattle.service.specs.Control.Effects;
 
-use crate::control::counted::{Counted, kept, none, one, three, three_and_words, with_parameter};
+use crate::control::counted::Counted;
 use crate::control::judging::{WriteResult, judged};
 use crate::control::machine::{Machine, Mode};
 use crate::control::op_codes::{Act, OpCode, Status, op_code};
@@ -25,18 +25,21 @@ pub(crate) struct Performed {
 fn response(op: u8, res: WriteResult) -> Counted
     ensures { result ≡ boxed (response_octets op res) }
 {
-    three(0x80, op, res.number())
+    Counted::of(&[0x80, op, res.number()])
 }
 
 // The response to an op code that succeeds: "A successful start answers 80 13 01 followed by a low and a high target speed, u16 each".
+#[tactic(auto, unfolding(record::specs::Octets::spelled))]
 fn success(speeds: TargetSpeeds, op: u8, act: Act, x: u8) -> Counted
     ensures { result ≡ boxed (response_octets op WriteResult.Success ++ followed_by speeds act x) }
 {
-    let result = WriteResult::Success;
+    let res = WriteResult::Success;
     if starts_run(act, x) {
-        return three_and_words(0x80, op, result.number(), speeds.low, speeds.high);
+        let [a, b] = speeds.low.to_le_bytes();
+        let [c, d] = speeds.high.to_le_bytes();
+        return Counted::of(&[0x80, op, res.number(), a, b, c, d]);
     }
-    response(op, result)
+    response(op, res)
 }
 
 // "08 stopped (1) or paused (2)"
@@ -71,9 +74,9 @@ fn says(status: Status, p: &[u8]) -> Counted
     ensures { result ≡ boxed (status_octets status p.now) }
 {
     match status {
-        Status::Silent => none(),
-        Status::Octet(x) => one(x),
-        Status::Echo(x) => with_parameter(x, p),
+        Status::Silent => Counted::of(&[]),
+        Status::Octet(x) => Counted::of(&[x]),
+        Status::Echo(x) => Counted::with_parameter(x, p),
     }
 }
 
@@ -83,7 +86,7 @@ fn failed(machine: Machine, op: u8, res: WriteResult) -> Performed
 {
     Performed {
         response: response(op, res),
-        status: none(),
+        status: Counted::of(&[]),
         machine,
     }
 }
@@ -121,8 +124,11 @@ fn part(settings: [u8; 49], count: u8, act: Act) -> Counted
     ensures { result ≡ boxed (Effects.part settings count act) }
 {
     match act {
-        Act::Stores(place) => kept(settings, place, count),
-        _ => none(),
+        Act::Stores(place) => {
+            let start = place as usize;
+            Counted::of(&settings[start..start + count as usize])
+        }
+        _ => Counted::of(&[]),
     }
 }
 
@@ -133,6 +139,6 @@ pub(crate) fn setting(machine: Machine, op: u8) -> Counted
 {
     match op_code(op) {
         Some(code) => part(machine.settings, code.parameter.length(), code.act),
-        None => none(),
+        None => Counted::of(&[]),
     }
 }

@@ -82,34 +82,22 @@ fn fails(machine: Machine, client: u8, act: Act, x: u8) -> bool
     }
 }
 
-// The first result that applies.
-fn first_result(supported: bool, controlled: bool, fitting: bool, failing: bool) -> WriteResult
-    ensures { result ≡ first_of supported controlled fitting failing }
-{
-    if !supported {
-        return WriteResult::NotSupported;
-    }
-    if !controlled {
-        return WriteResult::ControlNotPermitted;
-    }
-    if !fitting {
-        return WriteResult::InvalidParameter;
-    }
-    if failing {
-        return WriteResult::OperationFailed;
-    }
-    WriteResult::Success
-}
-
-// The result of a write of an op code of the table with a parameter.
+// The result of a write of an op code of the table with a parameter: the first that applies.
 #[tactic(auto, unfolding(crate::specs::Control::Judging::judged))]
 pub(crate) fn judged(machine: Machine, client: u8, code: OpCode, p: &[u8]) -> WriteResult
     ensures { result ≡ Judging.judged machine client code p.now }
 {
-    let x = u8_at(p, 0);
-    let supported = supports(machine.setup.feature, code.need);
-    let controlled = controls(machine.holder, client, code.act);
-    let fitting = fit(machine.setup.ranges, code, p);
-    let failing = fails(machine, client, code.act, x);
-    first_result(supported, controlled, fitting, failing)
+    if !supports(machine.setup.feature, code.need) {
+        return WriteResult::NotSupported;
+    }
+    if !controls(machine.holder, client, code.act) {
+        return WriteResult::ControlNotPermitted;
+    }
+    if !fit(machine.setup.ranges, code, p) {
+        return WriteResult::InvalidParameter;
+    }
+    if fails(machine, client, code.act, u8_at(p, 0)) {
+        return WriteResult::OperationFailed;
+    }
+    WriteResult::Success
 }

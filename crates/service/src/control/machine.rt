@@ -4,7 +4,6 @@ ghost use Rattle.record.specs.Octets.{placed};
 ghost use Rattle.service.specs.Control.Machine.{usable, held_by, cleared};
 ghost use Rattle.service.specs.Control.Machine as MachineSpecs;
 
-use crate::control::counted::put;
 use crate::control::ranges::Ranges;
 use crate::control::spin_down::{Run, TargetSpeeds};
 use record::feature::Feature;
@@ -100,9 +99,8 @@ impl Machine {
         requires { place + length octets.now ≤ 49 }
         ensures { result ≡ MachineSpecs.storing self (placed self.settings place octets.now) }
     {
-        let mut settings = self.settings;
-        put(&mut settings, place as usize, octets);
-        self.settings = settings;
+        let start = place as usize;
+        self.settings[start..start + octets.len()].copy_from_slice(octets);
         self
     }
 

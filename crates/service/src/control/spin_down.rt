@@ -3,7 +3,7 @@ ghost use Rattle.std.specs.Prelude.{◌≡◌, [], ◌∷◌};
 ghost use Rattle.service.specs.Control.Counted.{boxed};
 ghost use Rattle.service.specs.Control.SpinDown.{in_order, starts_run, spun_to, said_at, run_at};
 
-use crate::control::counted::{Counted, none, two};
+use crate::control::counted::Counted;
 use crate::control::op_codes::Act;
 
 // The two target speeds of a run, "fixed when the machine is opened".
@@ -59,7 +59,7 @@ fn silent(run: Run) -> Fed
     ensures { result ≡ record { status = boxed []; run = run } }
 {
     Fed {
-        status: none(),
+        status: Counted::of(&[]),
         run,
     }
 }
@@ -69,41 +69,19 @@ fn saying(value: u8, run: Run) -> Fed
     ensures { result ≡ record { status = boxed (0x14 ∷ value ∷ []); run = run } }
 {
     Fed {
-        status: two(0x14, value),
+        status: Counted::of(&[0x14, value]),
         run,
     }
 }
 
-// A speed in a run that has said nothing yet.
-fn quiet(speeds: TargetSpeeds, speed: u16) -> Fed
-    ensures { result ≡ record { status = boxed (said_at speeds Run.Quiet speed); run = run_at speeds Run.Quiet speed } }
-{
-    if speed <= speeds.low {
-        return saying(2, Run::Off);
-    }
-    if speed <= speeds.high {
-        return saying(4, Run::Warned);
-    }
-    silent(Run::Quiet)
-}
-
-// A speed in a run that has said 4, which it says once.
-fn warned(speeds: TargetSpeeds, speed: u16) -> Fed
-    ensures { result ≡ record { status = boxed (said_at speeds Run.Warned speed); run = run_at speeds Run.Warned speed } }
-{
-    if speed <= speeds.low {
-        return saying(2, Run::Off);
-    }
-    silent(Run::Warned)
-}
-
-// A speed of the flywheel, whether there is a run or not: "Outside a run a speed does nothing".
+// A speed of the flywheel, whether there is a run or not: "Outside a run a speed does nothing"; a run says 4 once.
 pub(crate) fn feed(speeds: TargetSpeeds, run: Run, speed: u16) -> Fed
     ensures { result ≡ record { status = boxed (said_at speeds run speed); run = run_at speeds run speed } }
 {
     match run {
         Run::Off => silent(Run::Off),
-        Run::Quiet => quiet(speeds, speed),
-        Run::Warned => warned(speeds, speed),
+        _ if speed <= speeds.low => saying(2, Run::Off),
+        Run::Quiet if speed <= speeds.high => saying(4, Run::Warned),
+        Run::Quiet | Run::Warned => silent(run),
     }
 }
