@@ -1,8 +1,11 @@
-// What the programs print by `print!` and `println!`: octets, and the text in a lent buffer. What prints has no contract but is safe and ends.
+// What the programs print by `print!` and `println!`: octets, the text in a lent buffer, who holds control, and the answer to a call. What prints has no contract but is safe and ends.
 #![tactic(auto)]
+
+pub mod answer;
 
 ghost use Rattle.std.specs.Prelude.{◌≡◌, take};
 
+use service::control::machine::Who;
 use std::fmt;
 use std::fmt::Write;
 
@@ -29,6 +32,19 @@ impl fmt::Display for Ascii<'_> {
             f.write_char(char::from(*x))?;
         }
         Ok(())
+    }
+}
+
+// Who holds control: nobody, or a client by its number.
+#[derive(Clone, Copy)]
+pub struct Holder(pub Who);
+
+impl fmt::Display for Holder {
+    fn fmt<W: fmt::Write>(&self, f: &mut fmt::Formatter<W>) -> fmt::Result {
+        match self.0 {
+            Who::Nobody => write!(f, "nobody"),
+            Who::Client(client) => write!(f, "client {client}"),
+        }
     }
 }
 
