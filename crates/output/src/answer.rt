@@ -14,7 +14,8 @@ impl fmt::Display for Answer {
         match reply.outcome {
             Outcome::Done => {
                 // the response to a write is 80, the op code and the result, and after a start of
-                // spin down the target speeds: the client has to confirm it
+                // spin down the target speeds: the client has to confirm it; there is a status only
+                // if the write succeeded, or a flywheel speed has led a run on
                 let mut mark = ':';
                 for (name, sent) in [("response", reply.response), ("status", reply.status)] {
                     if sent.count > 0 {
