@@ -4,14 +4,14 @@ from .svg import GREY, INNER, LINE, MARGIN, TINTS, Picture, lines_of, text_width
 # Each library with its left and right side in the stack and its words. Its row is computed: one above the highest library that it uses.
 LIBRARIES = {
     "record": (0, 660, "the record layer: field tables, records, splitting, Feature value"),
-    "text": (0, 370, "text in a buffer, names of fields"),
-    "service": (370, 660, "the layer above: collector and control point"),
-    "output": (0, 130, "printing, for the programs"),
-    "reference": (130, 280, "tables of a kind, in Markdown"),
-    "listing": (280, 490, "a capture as lines of text"),
+    "text": (0, 290, "text in a buffer, names of fields"),
+    "service": (290, 660, "the layer above: collector and control point"),
+    "reference": (0, 150, "tables of a kind, in Markdown"),
+    "listing": (150, 360, "a capture as lines of text"),
+    "output": (360, 490, "printing, for the programs"),
     "demands": (490, 660, "the demands, stated and proved"),
-    "phone": (280, 490, "what the calls from C do"),
-    "phone_c": (280, 490, "the calls from C, as a library for C"),
+    "phone": (150, 360, "what the calls from C do"),
+    "phone_c": (150, 360, "the calls from C, as a library for C"),
 }
 TINTED = {"record": TINTS[0], "service": TINTS[1]}
 

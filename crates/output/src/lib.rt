@@ -1,45 +1,50 @@
-// Printing for the programs: text, numbers and octets on standard output. The kit has no model of output, so what prints has no contract but is safe and ends.
+// What the programs print by `print!` and `println!`: octets, the text in a lent buffer, who holds control, and the answer to a call. What prints has no contract but is safe and ends.
 #![tactic(auto)]
+
+pub mod answer;
 
 ghost use Rattle.std.specs.Prelude.{◌≡◌, take};
 
-use record::octets::unsigned;
-use text::text::put_hex;
+use service::control::machine::Who;
+use std::fmt;
+use std::fmt::Write;
 
-// The file descriptor of standard output.
-const STDOUT: i32 = 1;
+// Octets, each printed as a space and two hexadecimal digits in capitals.
+#[derive(Clone, Copy)]
+pub struct Octets<'a>(pub &'a [u8]);
 
-pub fn print(text: &[u8]) {
-    io::write_all(STDOUT, text);
-}
-
-// A label, then a number.
-pub fn print_number(label: &[u8], n: u64) {
-    io::write_all(STDOUT, label);
-    io::print_decimal(STDOUT, n);
-}
-
-// A label, then a signed number, with `-` before a negative one.
-pub fn print_signed(label: &[u8], z: i16) {
-    let bits = unsigned(z) as u64;
-    if z < 0 {
-        print(label);
-        print_number(b"-", 65536 - bits);
-    } else {
-        print_number(label, bits);
+impl fmt::Display for Octets<'_> {
+    fn fmt<W: fmt::Write>(&self, f: &mut fmt::Formatter<W>) -> fmt::Result {
+        for x in self.0 {
+            write!(f, " {x:02X}")?;
+        }
+        Ok(())
     }
 }
 
-// A space, then an octet as two hexadecimal digits in capitals.
-fn print_octet(x: u8) {
-    let mut text = [b' ', 0, 0];
-    put_hex(&mut text, 1, x);
-    print(&text);
+// Text in ASCII, as the library writes it into lent buffers.
+#[derive(Clone, Copy)]
+pub struct Ascii<'a>(pub &'a [u8]);
+
+impl fmt::Display for Ascii<'_> {
+    fn fmt<W: fmt::Write>(&self, f: &mut fmt::Formatter<W>) -> fmt::Result {
+        for x in self.0 {
+            f.write_char(char::from(*x))?;
+        }
+        Ok(())
+    }
 }
 
-pub fn print_octets(s: &[u8]) {
-    for i in 0..s.len() {
-        print_octet(s[i]);
+// Who holds control: nobody, or a client by its number.
+#[derive(Clone, Copy)]
+pub struct Holder(pub Who);
+
+impl fmt::Display for Holder {
+    fn fmt<W: fmt::Write>(&self, f: &mut fmt::Formatter<W>) -> fmt::Result {
+        match self.0 {
+            Who::Nobody => write!(f, "nobody"),
+            Who::Client(client) => write!(f, "client {client}"),
+        }
     }
 }
 

@@ -1,105 +1,109 @@
-// The calls of a collection, and the line of the output for each: the answer, then the collection after it.
-use crate::printing::{print_bit, print_numbers, print_refusal, print_u8, print_u16, print_u32};
-use output::{print, print_signed};
-use record::octets::u16_at;
+// What is printed of a collection: the answer to an opening and to a notification, and the whole state.
+use crate::printing::Refused;
 use record::record::Record;
 use service::collector::{Collected, Collection, Opening, Told};
+use std::fmt;
 
-// A number of four octets, least first.
-pub(crate) fn u32_at(s: &[u8], at: u8) -> u32 {
-    let low = at as usize;
-    u16_at(s, low) as u32 + 65536 * u16_at(s, low + 2) as u32
-}
+// The answer to an opening.
+#[derive(Clone, Copy)]
+pub(crate) struct Begun(pub(crate) Opening);
 
-fn print_told(told: Told) {
-    match told {
-        Told::Open => print(b" open"),
-        Told::Fixed(set) => print_u32(b" told=", set),
+impl fmt::Display for Begun {
+    fn fmt<W: fmt::Write>(&self, f: &mut fmt::Formatter<W>) -> fmt::Result {
+        match self.0 {
+            Opening::Opened => write!(f, "opened"),
+            Opening::Refused(refusal) => write!(f, "{}", Refused(refusal)),
+        }
     }
 }
 
 // A collection: its kind, what it was told, the held groups, and the numbers of their fields.
-pub(crate) fn print_collection(collection: Collection) {
-    let told = collection.told;
-    let numbers = collection.numbers;
-    print_u8(b" kind=", collection.kind);
-    print_told(told);
-    print_u32(b" held=", collection.held);
-    print_numbers(&numbers);
-    print(b"\n");
-}
+#[derive(Clone, Copy)]
+pub(crate) struct State<'a>(pub(crate) &'a Collection);
 
-pub(crate) fn print_opening(answer: Opening) {
-    match answer {
-        Opening::Opened => print(b"opened"),
-        Opening::Refused(refusal) => print_refusal(refusal),
+impl fmt::Display for State<'_> {
+    fn fmt<W: fmt::Write>(&self, f: &mut fmt::Formatter<W>) -> fmt::Result {
+        let collection = self.0;
+        write!(f, " kind={}", collection.kind)?;
+        match collection.told {
+            Told::Open => write!(f, " open")?,
+            Told::Fixed(set) => write!(f, " told={set}")?,
+        }
+        write!(f, " held={}", collection.held)?;
+        for number in &collection.numbers {
+            write!(f, " {number}")?;
+        }
+        Ok(())
     }
 }
 
-// The fields of a record by their names, in the order of their numbers: first those up to energy.
-fn print_first_fields(r: Record) {
-    print_u16(b" speed=", r.speed);
-    print_u16(b" floors=", r.climb.floors);
-    print_u16(b" steps=", r.climb.steps);
-    print_u8(b" stroke_rate=", r.stroke.rate);
-    print_u16(b" stroke_count=", r.stroke.count);
-    print_u16(b" average_speed=", r.average_speed);
-    print_u32(b" distance=", r.distance);
-    print_signed(b" inclination=", r.slope.inclination.0);
-    print_signed(b" ramp_angle=", r.slope.ramp_angle.0);
-    print_u16(b" positive_gain=", r.gain.positive);
-    print_u16(b" negative_gain=", r.gain.negative);
-    print_u16(b" pace=", r.pace);
-    print_u16(b" average_pace=", r.average_pace);
-    print_u16(b" total_energy=", r.energy.total);
-    print_u16(b" energy_per_hour=", r.energy.per_hour);
-    print_u8(b" energy_per_minute=", r.energy.per_minute);
+// An answer to a notification; "Each answer says whether held groups were dropped unused".
+#[derive(Clone, Copy)]
+pub(crate) struct Answer(pub(crate) Collected);
+
+impl fmt::Display for Answer {
+    fn fmt<W: fmt::Write>(&self, f: &mut fmt::Formatter<W>) -> fmt::Result {
+        match self.0 {
+            Collected::Waiting { .. } => write!(f, "waiting")?,
+            Collected::Record { record, .. } => write!(f, "{}", Fields(&record))?,
+            Collected::Refused { refusal, .. } => write!(f, "{}", Refused(refusal))?,
+        }
+        let (Collected::Waiting { dropped }
+        | Collected::Record { dropped, .. }
+        | Collected::Refused { dropped, .. }) = self.0;
+        write!(f, " dropped={}", u8::from(dropped))
+    }
 }
 
-// Those after energy.
-fn print_other_fields(r: Record) {
-    print_u8(b" heart_rate=", r.heart_rate);
-    print_u8(b" metabolic_equivalent=", r.metabolic_equivalent);
-    print_u16(b" elapsed=", r.elapsed);
-    print_u16(b" remaining=", r.remaining);
-    print_signed(b" belt_force=", r.force.belt);
-    print_signed(b" power_output=", r.force.power_output);
-    print_u16(b" step_rate=", r.step_rates.rate);
-    print_u16(b" average_step_rate=", r.step_rates.average);
-    print_u16(b" stride_count=", r.stride_count);
-    print_signed(b" resistance=", r.resistance);
-    print_signed(b" power=", r.power);
-    print_signed(b" average_power=", r.average_power);
-    print_u8(b" average_stroke_rate=", r.average_stroke_rate);
-    print_u16(b" cadence=", r.cadence);
-    print_u16(b" average_cadence=", r.average_cadence);
+// A record, with its fields by their names.
+#[derive(Clone, Copy)]
+struct Fields<'a>(&'a Record);
+
+impl fmt::Display for Fields<'_> {
+    fn fmt<W: fmt::Write>(&self, f: &mut fmt::Formatter<W>) -> fmt::Result {
+        let r = self.0;
+        write!(f, "record kind={} groups={}", r.kind, r.groups)?;
+        write!(f, " direction={} fields:", r.direction)?;
+        for (name, number) in fields_of(r) {
+            write!(f, " {name}={number}")?;
+        }
+        Ok(())
+    }
 }
 
-fn print_record(r: Record) {
-    print_u8(b"record kind=", r.kind);
-    print_u32(b" groups=", r.groups);
-    print_u8(b" direction=", r.direction);
-    print(b" fields:");
-    print_first_fields(r);
-    print_other_fields(r);
-}
-
-// An answer; "Each answer says whether held groups were dropped unused".
-pub(crate) fn print_collected(answer: Collected) {
-    let dropped = match answer {
-        Collected::Waiting { dropped } => {
-            print(b"waiting");
-            dropped
-        }
-        Collected::Record { record, dropped } => {
-            print_record(record);
-            dropped
-        }
-        Collected::Refused { refusal, dropped } => {
-            print_refusal(refusal);
-            dropped
-        }
-    };
-    print(b" dropped=");
-    print_bit(dropped);
+// The names of the fields and their numbers, in the order of the table.
+fn fields_of(r: &Record) -> [(&'static str, i64); 31] {
+    [
+        ("speed", i64::from(r.speed)),
+        ("floors", i64::from(r.climb.floors)),
+        ("steps", i64::from(r.climb.steps)),
+        ("stroke_rate", i64::from(r.stroke.rate)),
+        ("stroke_count", i64::from(r.stroke.count)),
+        ("average_speed", i64::from(r.average_speed)),
+        ("distance", i64::from(r.distance)),
+        ("inclination", i64::from(r.slope.inclination.0)),
+        ("ramp_angle", i64::from(r.slope.ramp_angle.0)),
+        ("positive_gain", i64::from(r.gain.positive)),
+        ("negative_gain", i64::from(r.gain.negative)),
+        ("pace", i64::from(r.pace)),
+        ("average_pace", i64::from(r.average_pace)),
+        ("total_energy", i64::from(r.energy.total)),
+        ("energy_per_hour", i64::from(r.energy.per_hour)),
+        ("energy_per_minute", i64::from(r.energy.per_minute)),
+        ("heart_rate", i64::from(r.heart_rate)),
+        ("metabolic_equivalent", i64::from(r.metabolic_equivalent)),
+        ("elapsed", i64::from(r.elapsed)),
+        ("remaining", i64::from(r.remaining)),
+        ("belt_force", i64::from(r.force.belt)),
+        ("power_output", i64::from(r.force.power_output)),
+        ("step_rate", i64::from(r.step_rates.rate)),
+        ("average_step_rate", i64::from(r.step_rates.average)),
+        ("stride_count", i64::from(r.stride_count)),
+        ("resistance", i64::from(r.resistance)),
+        ("power", i64::from(r.power)),
+        ("average_power", i64::from(r.average_power)),
+        ("average_stroke_rate", i64::from(r.average_stroke_rate)),
+        ("cadence", i64::from(r.cadence)),
+        ("average_cadence", i64::from(r.average_cadence)),
+    ]
 }

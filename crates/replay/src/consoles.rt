@@ -1,28 +1,26 @@
-// The calls of a console, and the line of the output for each: the reply, then the console after it.
-use crate::lines::begins;
-use crate::printing::{print_bit, print_refusal, print_u8, print_u16, print_u32};
-use output::{print, print_octets, print_signed};
+// How a line opens a console, and what is printed of one: the reply to a call, then the whole state after it.
+use crate::printing::Refused;
+use output::Octets;
+use record::feature::Feature;
 use record::octets::{s16_at, u8_at, u16_at};
 use service::control::counted::Counted;
-use service::control::machine::{Machine, Mode, Who};
+use service::control::machine::{Machine, Mode, Setup, Who};
 use service::control::ranges::{HeartRateRange, Ranges, SignedRange, SpeedRange};
 use service::control::spin_down::{Run, TargetSpeeds};
-use service::control::{Client, Console, Outcome, Reply};
+use service::control::{Console, Outcome, Reply};
+use std::fmt;
 
 // The ranges in 27 octets: speed, inclination, resistance, power and heart rate, each its least value, its greatest and its increment.
 fn ranges_at(s: &[u8]) -> Ranges {
-    let inclination = signed_range_at(s, 6);
-    let resistance = signed_range_at(s, 12);
-    let power = signed_range_at(s, 18);
     Ranges {
         speed: SpeedRange {
             least: u16_at(s, 0),
             greatest: u16_at(s, 2),
             increment: u16_at(s, 4),
         },
-        inclination,
-        resistance,
-        power,
+        inclination: signed_range_at(s, 6),
+        resistance: signed_range_at(s, 12),
+        power: signed_range_at(s, 18),
         heart_rate: HeartRateRange {
             least: u8_at(s, 24),
             greatest: u8_at(s, 25),
@@ -31,18 +29,12 @@ fn ranges_at(s: &[u8]) -> Ranges {
     }
 }
 
-fn signed_range_at(s: &[u8], at: usize) -> SignedRange {
-    if at > 18 {
-        return SignedRange {
-            least: 0,
-            greatest: 0,
-            increment: 0,
-        };
-    }
+fn signed_range_at(s: &[u8], at: u8) -> SignedRange {
+    let first = usize::from(at);
     SignedRange {
-        least: s16_at(s, at),
-        greatest: s16_at(s, at + 2),
-        increment: u16_at(s, at + 4),
+        least: s16_at(s, first),
+        greatest: s16_at(s, first + 2),
+        increment: u16_at(s, first + 4),
     }
 }
 
@@ -54,162 +46,152 @@ fn speeds_at(s: &[u8]) -> TargetSpeeds {
     }
 }
 
-// Opens a machine: its ranges, its target speeds, and all octets after them as the Feature value.
+// Opens a machine: its ranges, its target speeds, and all octets after them as the Feature value; what is too short for these is a Feature value as a whole.
 pub(crate) fn opened(s: &[u8]) -> Reply {
-    if s.len() < 31 {
-        return Console::open(s, ranges_at(s), speeds_at(s));
-    }
-    Console::open(&s[31..], ranges_at(s), speeds_at(s))
-}
-
-// Feeds the flywheel's speed.
-pub(crate) fn fed(console: Console, s: &[u8]) -> Reply {
-    console.flywheel(u16_at(s, 0))
-}
-
-// A client's write: the client, and all octets after it as what is written.
-fn written(console: Console, s: &[u8]) -> Reply {
-    if s.len() == 0 {
-        return console.write(0, s);
-    }
-    console.write(s[0], &s[1..])
-}
-
-// Whether a line names a call of a client.
-pub(crate) fn is_client_call(line: &[u8]) -> bool {
-    begins(line, b"connect ")
-        || begins(line, b"disconnect ")
-        || begins(line, b"on ")
-        || begins(line, b"off ")
-        || begins(line, b"confirm ")
-        || begins(line, b"write ")
-}
-
-// The call of a client that a line names; if it is none of the first five, it is a write.
-pub(crate) fn called(console: Console, line: &[u8], s: &[u8]) -> Reply {
-    let client = u8_at(s, 0);
-    if begins(line, b"connect ") {
-        return console.connect(client);
-    }
-    if begins(line, b"disconnect ") {
-        return console.disconnect(client);
-    }
-    if begins(line, b"on ") {
-        return console.indicate(client, true);
-    }
-    if begins(line, b"off ") {
-        return console.indicate(client, false);
-    }
-    if begins(line, b"confirm ") {
-        return console.confirm(client);
-    }
-    written(console, s)
+    let feature = s.get(31..).unwrap_or(s);
+    Console::open(feature, ranges_at(s), speeds_at(s))
 }
 
 // A count, and all octets, even those past the count.
-pub(crate) fn print_counted(label: &[u8], counted: Counted) {
-    let octets = counted.octets;
-    print_u8(label, counted.count);
-    print(b":");
-    print_octets(&octets);
+#[derive(Clone, Copy)]
+pub(crate) struct Padded(pub(crate) Counted);
+
+impl fmt::Display for Padded {
+    fn fmt<W: fmt::Write>(&self, f: &mut fmt::Formatter<W>) -> fmt::Result {
+        let counted = self.0;
+        write!(f, "{}:{}", counted.count, Octets(&counted.octets))
+    }
 }
 
-fn print_who(label: &[u8], who: Who) {
-    match who {
-        Who::Nobody => {
-            print(label);
-            print(b"nobody");
+// Nobody, or the number of a client.
+#[derive(Clone, Copy)]
+struct Number(Who);
+
+impl fmt::Display for Number {
+    fn fmt<W: fmt::Write>(&self, f: &mut fmt::Formatter<W>) -> fmt::Result {
+        match self.0 {
+            Who::Nobody => write!(f, "nobody"),
+            Who::Client(client) => write!(f, "{client}"),
         }
-        Who::Client(client) => print_u8(label, client),
     }
 }
 
-fn print_mode(mode: Mode) {
+fn mode_name(mode: Mode) -> &'static str {
     match mode {
-        Mode::Stopped => print(b" stopped"),
-        Mode::Running => print(b" running"),
-        Mode::Paused => print(b" paused"),
+        Mode::Stopped => "stopped",
+        Mode::Running => "running",
+        Mode::Paused => "paused",
     }
 }
 
-fn print_range(label: &[u8], range: SignedRange) {
-    print_signed(label, range.least);
-    print_signed(b" to ", range.greatest);
-    print_u16(b" by ", range.increment);
-}
-
-fn print_ranges(ranges: Ranges) {
-    print_u16(b" speed=", ranges.speed.least);
-    print_u16(b" to ", ranges.speed.greatest);
-    print_u16(b" by ", ranges.speed.increment);
-    print_range(b" inclination=", ranges.inclination);
-    print_range(b" resistance=", ranges.resistance);
-    print_range(b" power=", ranges.power);
-    print_u8(b" heart_rate=", ranges.heart_rate.least);
-    print_u8(b" to ", ranges.heart_rate.greatest);
-    print_u8(b" by ", ranges.heart_rate.increment);
-}
-
-fn print_speeds(speeds: TargetSpeeds) {
-    print_u16(b" low=", speeds.low);
-    print_u16(b" high=", speeds.high);
-}
-
-fn print_run(run: Run) {
+fn run_name(run: Run) -> &'static str {
     match run {
-        Run::Off => print(b" run=off"),
-        Run::Quiet => print(b" run=quiet"),
-        Run::Warned => print(b" run=warned"),
+        Run::Off => "off",
+        Run::Quiet => "quiet",
+        Run::Warned => "warned",
     }
 }
 
-fn print_machine(machine: Machine) {
-    let mode = machine.mode;
-    let run = machine.run;
-    let holder = machine.holder;
-    let settings = machine.settings;
-    print_mode(mode);
-    print_who(b" holder=", holder);
-    print(b" settings:");
-    print_octets(&settings);
-    print_u32(b" features=", machine.setup.feature.features);
-    print_u32(b" targets=", machine.setup.feature.targets);
-    print_ranges(machine.setup.ranges);
-    print_speeds(machine.setup.speeds);
-    print_run(run);
-}
+// The least value of a range, its greatest and its increment.
+#[derive(Clone, Copy)]
+struct Steps<T, I>(T, T, I);
 
-// Two digits: whether the client is connected, whether its indications are on.
-fn print_client(client: Client) {
-    print(b" ");
-    print_bit(client.connected);
-    print_bit(client.indicating);
-}
-
-fn print_console(console: Console) {
-    let clients = console.clients;
-    let awaited = console.awaited;
-    print(b" clients:");
-    print_client(clients[0]);
-    print_client(clients[1]);
-    print_client(clients[2]);
-    print_client(clients[3]);
-    print_who(b" awaited=", awaited);
-    print_machine(console.machine);
-}
-
-fn print_outcome(outcome: Outcome) {
-    match outcome {
-        Outcome::Done => print(b"done"),
-        Outcome::Refused(refusal) => print_refusal(refusal),
+impl<T: fmt::Display, I: fmt::Display> fmt::Display for Steps<T, I> {
+    fn fmt<W: fmt::Write>(&self, f: &mut fmt::Formatter<W>) -> fmt::Result {
+        let Steps(least, greatest, increment) = self;
+        write!(f, "{least} to {greatest} by {increment}")
     }
 }
 
-pub(crate) fn print_reply(reply: Reply) {
-    let outcome = reply.outcome;
-    print_outcome(outcome);
-    print_counted(b" response=", reply.response);
-    print_counted(b" status=", reply.status);
-    print_console(reply.console);
-    print(b"\n");
+// The ranges by their names.
+#[derive(Clone, Copy)]
+struct Bounds<'a>(&'a Ranges);
+
+impl fmt::Display for Bounds<'_> {
+    fn fmt<W: fmt::Write>(&self, f: &mut fmt::Formatter<W>) -> fmt::Result {
+        let ranges = self.0;
+        let range = ranges.speed;
+        let steps = Steps(range.least, range.greatest, range.increment);
+        write!(f, " speed={steps}")?;
+        for (name, range) in [
+            ("inclination", ranges.inclination),
+            ("resistance", ranges.resistance),
+            ("power", ranges.power),
+        ] {
+            let steps = Steps(range.least, range.greatest, range.increment);
+            write!(f, " {name}={steps}")?;
+        }
+        let range = ranges.heart_rate;
+        let steps = Steps(range.least, range.greatest, range.increment);
+        write!(f, " heart_rate={steps}")
+    }
+}
+
+// A machine.
+#[derive(Clone, Copy)]
+struct Whole<'a>(&'a Machine);
+
+impl fmt::Display for Whole<'_> {
+    fn fmt<W: fmt::Write>(&self, f: &mut fmt::Formatter<W>) -> fmt::Result {
+        let machine = self.0;
+        let holder = Number(machine.holder);
+        let settings = Octets(&machine.settings);
+        let Setup {
+            feature,
+            ranges,
+            speeds,
+        } = machine.setup;
+        let Feature { features, targets } = feature;
+        let TargetSpeeds { low, high } = speeds;
+        write!(f, " {} holder={holder}", mode_name(machine.mode))?;
+        write!(f, " settings:{settings}")?;
+        write!(f, " features={features} targets={targets}")?;
+        write!(f, "{} low={low} high={high}", Bounds(&ranges))?;
+        write!(f, " run={}", run_name(machine.run))
+    }
+}
+
+// A console: two digits for each client, whether it is connected and whether its indications are on; whose response is awaited; and its machine.
+#[derive(Clone, Copy)]
+struct State<'a>(&'a Console);
+
+impl fmt::Display for State<'_> {
+    fn fmt<W: fmt::Write>(&self, f: &mut fmt::Formatter<W>) -> fmt::Result {
+        let console = self.0;
+        write!(f, " clients:")?;
+        for client in &console.clients {
+            let connected = u8::from(client.connected);
+            let indicating = u8::from(client.indicating);
+            write!(f, " {connected}{indicating}")?;
+        }
+        let awaited = Number(console.awaited);
+        write!(f, " awaited={awaited}{}", Whole(&console.machine))
+    }
+}
+
+// Whether a call was done or refused.
+#[derive(Clone, Copy)]
+struct Said(Outcome);
+
+impl fmt::Display for Said {
+    fn fmt<W: fmt::Write>(&self, f: &mut fmt::Formatter<W>) -> fmt::Result {
+        match self.0 {
+            Outcome::Done => write!(f, "done"),
+            Outcome::Refused(refusal) => write!(f, "{}", Refused(refusal)),
+        }
+    }
+}
+
+// A reply, and the console after the call.
+#[derive(Clone, Copy)]
+pub(crate) struct Replied<'a>(pub(crate) &'a Reply);
+
+impl fmt::Display for Replied<'_> {
+    fn fmt<W: fmt::Write>(&self, f: &mut fmt::Formatter<W>) -> fmt::Result {
+        let reply = self.0;
+        let response = Padded(reply.response);
+        let status = Padded(reply.status);
+        write!(f, "{} response={response}", Said(reply.outcome))?;
+        write!(f, " status={status}{}", State(&reply.console))
+    }
 }

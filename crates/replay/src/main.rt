@@ -9,35 +9,24 @@ mod printing;
 mod script;
 mod splits;
 
-use crate::lines::LONGEST;
-use crate::script::{Replay, begin, run_block};
+use crate::script::Replay;
 use std::io;
 use std::io::Read;
 
 // How many octets one read asks for, at most.
 const BLOCK: usize = 65536;
 
-// Reads once and replays the lines that end in what was read: none if the input has ended.
-fn run_some<R: Read>(
-    source: &mut R,
-    replay: Replay,
-    line: &mut [u8; LONGEST],
-) -> io::Result<Replay> {
-    let mut block = [0u8; BLOCK];
-    let count = source.read(&mut block)?;
-    Ok(run_block(replay, line, &block[..count]))
-}
-
 // A proved loop has to end, and an input might never do so: so the iterations count up to a number that no run uses up.
 fn main(rt: HostRuntime) -> io::Result<()> {
     let mut source = rt.stdin();
-    let mut line = [0u8; LONGEST];
-    let mut replay = begin();
+    let mut replay = Replay::new(rt);
+    let mut block = [0u8; BLOCK];
     for _ in 0..u64::MAX {
-        if replay.ended {
+        let count = source.read(&mut block)?;
+        if count == 0 {
             break;
         }
-        replay = run_some(&mut source, replay, &mut line)?;
+        replay.run_block(&block[..count])?;
     }
     Ok(())
 }

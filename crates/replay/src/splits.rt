@@ -1,148 +1,142 @@
 // The typed splitter: a record by its named fields, and the line of the output for a part: the answer, then every lent octet.
-use crate::collections::u32_at;
-use crate::printing::print_refusal;
-use output::{first, print, print_number, print_octets};
+use crate::lines::u32_at;
+use crate::printing::Refused;
+use output::Octets;
 use record::octets::{s16_at, u8_at, u16_at};
 use record::record::{
     Climb, Energy, Force, Gain, Inclination, RampAngle, Record, Slope, StepRates, Stroke,
 };
 use record::split::{SplitAnswer, split};
+use std::{fmt, io};
 
-// What a lent octet holds until it is written.
+// What a lent octet holds until it is written, and the most octets that are lent.
 const UNTOUCHED: u8 = 0xAA;
 
-// A field of one octet, of two, and of two with a sign: each field has four octets of the line, after the sixteen of the other numbers.
-fn octet(s: &[u8], field: u8) -> u8 {
-    u8_at(s, 16 + 4 * field as usize)
-}
+const MOST_LENT: usize = 512;
 
-fn word(s: &[u8], field: u8) -> u16 {
-    u16_at(s, 16 + 4 * field as usize)
-}
+// The fields of a line, in the order of the table: each has four octets.
+#[derive(Clone, Copy)]
+struct Fields<'a>(&'a [u8]);
 
-fn signed(s: &[u8], field: u8) -> i16 {
-    s16_at(s, 16 + 4 * field as usize)
-}
+impl Fields<'_> {
+    // A field of one octet, of two, and of two with a sign.
+    fn octet(self, field: u8) -> u8 {
+        u8_at(self.0, 4 * usize::from(field))
+    }
 
-fn slope(s: &[u8]) -> Slope {
-    Slope {
-        inclination: Inclination(signed(s, 7)),
-        ramp_angle: RampAngle(signed(s, 8)),
+    fn word(self, field: u8) -> u16 {
+        u16_at(self.0, 4 * usize::from(field))
+    }
+
+    fn signed(self, field: u8) -> i16 {
+        s16_at(self.0, 4 * usize::from(field))
+    }
+
+    fn slope(self) -> Slope {
+        Slope {
+            inclination: Inclination(self.signed(7)),
+            ramp_angle: RampAngle(self.signed(8)),
+        }
+    }
+
+    fn energy(self) -> Energy {
+        Energy {
+            total: self.word(13),
+            per_hour: self.word(14),
+            per_minute: self.octet(15),
+        }
+    }
+
+    fn climb(self) -> Climb {
+        Climb {
+            floors: self.word(1),
+            steps: self.word(2),
+        }
+    }
+
+    fn stroke(self) -> Stroke {
+        Stroke {
+            rate: self.octet(3),
+            count: self.word(4),
+        }
+    }
+
+    fn gain(self) -> Gain {
+        Gain {
+            positive: self.word(9),
+            negative: self.word(10),
+        }
+    }
+
+    fn force(self) -> Force {
+        Force {
+            belt: self.signed(20),
+            power_output: self.signed(21),
+        }
+    }
+
+    fn step_rates(self) -> StepRates {
+        StepRates {
+            rate: self.word(22),
+            average: self.word(23),
+        }
     }
 }
 
-fn energy(s: &[u8]) -> Energy {
-    Energy {
-        total: word(s, 13),
-        per_hour: word(s, 14),
-        per_minute: octet(s, 15),
-    }
-}
-
-fn climb(s: &[u8]) -> Climb {
-    Climb {
-        floors: word(s, 1),
-        steps: word(s, 2),
-    }
-}
-
-fn stroke(s: &[u8]) -> Stroke {
-    Stroke {
-        rate: octet(s, 3),
-        count: word(s, 4),
-    }
-}
-
-fn gain(s: &[u8]) -> Gain {
-    Gain {
-        positive: word(s, 9),
-        negative: word(s, 10),
-    }
-}
-
-fn force(s: &[u8]) -> Force {
-    Force {
-        belt: signed(s, 20),
-        power_output: signed(s, 21),
-    }
-}
-
-fn step_rates(s: &[u8]) -> StepRates {
-    StepRates {
-        rate: word(s, 22),
-        average: word(s, 23),
-    }
-}
-
-// The record of a line: kind, groups, direction, and the fields in the order of the table.
+// The record of a line: kind, groups and direction, and after the sixteen octets of the numbers its fields.
 fn record_in(s: &[u8]) -> Record {
+    let fields = Fields(s.get(16..).unwrap_or(&[]));
     Record {
         kind: u8_at(s, 0),
         groups: u32_at(s, 1),
         direction: u8_at(s, 5),
-        speed: word(s, 0),
-        climb: climb(s),
-        stroke: stroke(s),
-        average_speed: word(s, 5),
+        speed: fields.word(0),
+        climb: fields.climb(),
+        stroke: fields.stroke(),
+        average_speed: fields.word(5),
         distance: u32_at(s, 40),
-        slope: slope(s),
-        gain: gain(s),
-        pace: word(s, 11),
-        average_pace: word(s, 12),
-        energy: energy(s),
-        heart_rate: octet(s, 16),
-        metabolic_equivalent: octet(s, 17),
-        elapsed: word(s, 18),
-        remaining: word(s, 19),
-        force: force(s),
-        step_rates: step_rates(s),
-        stride_count: word(s, 24),
-        resistance: signed(s, 25),
-        power: signed(s, 26),
-        average_power: signed(s, 27),
-        average_stroke_rate: octet(s, 28),
-        cadence: word(s, 29),
-        average_cadence: word(s, 30),
+        slope: fields.slope(),
+        gain: fields.gain(),
+        pace: fields.word(11),
+        average_pace: fields.word(12),
+        energy: fields.energy(),
+        heart_rate: fields.octet(16),
+        metabolic_equivalent: fields.octet(17),
+        elapsed: fields.word(18),
+        remaining: fields.word(19),
+        force: fields.force(),
+        step_rates: fields.step_rates(),
+        stride_count: fields.word(24),
+        resistance: fields.signed(25),
+        power: fields.signed(26),
+        average_power: fields.signed(27),
+        average_stroke_rate: fields.octet(28),
+        cadence: fields.word(29),
+        average_cadence: fields.word(30),
     }
 }
 
-fn print_answer(answer: SplitAnswer) {
-    match answer {
-        SplitAnswer::Part(extent) => {
-            print_number(b"length=", extent.length as u64);
-            print_number(b" parts=", extent.parts as u64);
+#[derive(Clone, Copy)]
+struct Answer(SplitAnswer);
+
+impl fmt::Display for Answer {
+    fn fmt<W: fmt::Write>(&self, f: &mut fmt::Formatter<W>) -> fmt::Result {
+        match self.0 {
+            SplitAnswer::Part(extent) => {
+                write!(f, "length={} parts={}", extent.length, extent.parts)
+            }
+            SplitAnswer::Refused(refusal) => write!(f, "{}", Refused(refusal)),
         }
-        SplitAnswer::Refused(refusal) => print_refusal(refusal),
     }
 }
 
-// Splits into the first `room` octets of a buffer, or into all of it if it has fewer.
-fn split_into(
-    r: Record,
-    payload: usize,
-    part: usize,
-    buffer: &mut [u8],
-    room: usize,
-) -> SplitAnswer {
-    if room <= buffer.len() {
-        return split(r, payload, part, &mut buffer[0..room]);
-    }
-    split(r, payload, part, buffer)
-}
-
-// Every octet that was lent.
-fn print_lent(buffer: &[u8; 512], room: usize) {
-    print(b" lent:");
-    print_octets(first(buffer, room));
-    print(b"\n");
-}
-
-// Splits the record of a line, at the line's payload and part, into as many lent octets as the line gives.
-pub(crate) fn run_split(s: &[u8]) {
+// Splits the record of a line, at the line's payload and part, into as many lent octets as the line gives, and prints every octet that was lent.
+pub(crate) fn run_split(rt: &impl Print, s: &[u8]) -> io::Result<()> {
     let payload = u32_at(s, 6) as usize;
     let part = u32_at(s, 10) as usize;
-    let room = u16_at(s, 14) as usize;
-    let mut buffer = [UNTOUCHED; 512];
-    print_answer(split_into(record_in(s), payload, part, &mut buffer, room));
-    print_lent(&buffer, room);
+    let mut buffer = [UNTOUCHED; MOST_LENT];
+    let room = usize::from(u16_at(s, 14)).min(MOST_LENT);
+    let lent = &mut buffer[..room];
+    let answer = split(record_in(s), payload, part, lent);
+    println!(rt; "{} lent:{}", Answer(answer), Octets(lent))
 }

@@ -5,12 +5,13 @@
 
 mod show;
 
-use crate::show::{confirm, connect, disconnect, state, turn_indications_on, write};
-use output::{print, print_number, print_octets};
+use crate::show::Session;
+use output::Octets;
 use record::feature::Feature;
 use service::control::ranges::{HeartRateRange, Ranges, SignedRange, SpeedRange};
 use service::control::spin_down::TargetSpeeds;
 use service::control::{Console, Outcome};
+use std::io;
 
 // What this treadmill sends, and what can be set on it: no resistance and no heart rate.
 const FEATURE: Feature = Feature {
@@ -81,81 +82,82 @@ const PAUSE: [u8; 2] = [0x08, 0x02];
 
 // Client 0 takes control and sets a speed; one between two steps is answered 03, and so is one
 // above the range. The speed that was set stays.
-fn begin(opened: Console) -> Console {
-    let mut console = connect(opened, 0);
-    console = turn_indications_on(console, 0);
-    console = write(console, 0, &REQUEST_CONTROL);
-    state(b"now: ", console);
-    console = confirm(console, 0);
-    console = write(console, 0, &SPEED_1000);
-    state(b"now: ", console);
-    console = confirm(console, 0);
-    console = write(console, 0, &SPEED_1005);
-    console = confirm(console, 0);
-    console = write(console, 0, &SPEED_2010);
-    confirm(console, 0)
+fn begin(session: &mut Session<impl Print>) -> io::Result<()> {
+    session.connect(0)?;
+    session.turn_indications_on(0)?;
+    session.write(0, &REQUEST_CONTROL)?;
+    session.state("now")?;
+    session.confirm(0)?;
+    session.write(0, &SPEED_1000)?;
+    session.state("now")?;
+    session.confirm(0)?;
+    session.write(0, &SPEED_1005)?;
+    session.confirm(0)?;
+    session.write(0, &SPEED_2010)?;
+    session.confirm(0)
 }
 
 // Client 0 starts the machine. What client 1 writes is refused with 20 until that response is
 // confirmed; after that it is answered 04 and 05, since client 0 holds control.
-fn start(begun: Console) -> Console {
-    let mut console = write(begun, 0, &START_OR_RESUME);
-    state(b"now: ", console);
-    console = connect(console, 1);
-    console = turn_indications_on(console, 1);
-    console = write(console, 1, &REQUEST_CONTROL);
-    console = confirm(console, 0);
-    console = write(console, 1, &REQUEST_CONTROL);
-    console = confirm(console, 1);
-    console = write(console, 1, &START_OR_RESUME);
-    confirm(console, 1)
+fn start(session: &mut Session<impl Print>) -> io::Result<()> {
+    session.write(0, &START_OR_RESUME)?;
+    session.state("now")?;
+    session.connect(1)?;
+    session.turn_indications_on(1)?;
+    session.write(1, &REQUEST_CONTROL)?;
+    session.confirm(0)?;
+    session.write(1, &REQUEST_CONTROL)?;
+    session.confirm(1)?;
+    session.write(1, &START_OR_RESUME)?;
+    session.confirm(1)
 }
 
 // Client 0 starts the machine again, which is answered 04, since it runs already; pauses; resumes;
 // sets a resistance, which is answered 02, since this machine does not have it; and stops.
-fn drive(started: Console) -> Console {
-    let mut console = write(started, 0, &START_OR_RESUME);
-    console = confirm(console, 0);
-    console = write(console, 0, &PAUSE);
-    state(b"now: ", console);
-    console = confirm(console, 0);
-    console = write(console, 0, &START_OR_RESUME);
-    state(b"now: ", console);
-    console = confirm(console, 0);
-    console = write(console, 0, &RESISTANCE_50);
-    console = confirm(console, 0);
-    console = write(console, 0, &STOP);
-    state(b"now: ", console);
-    confirm(console, 0)
+fn drive(session: &mut Session<impl Print>) -> io::Result<()> {
+    session.write(0, &START_OR_RESUME)?;
+    session.confirm(0)?;
+    session.write(0, &PAUSE)?;
+    session.state("now")?;
+    session.confirm(0)?;
+    session.write(0, &START_OR_RESUME)?;
+    session.state("now")?;
+    session.confirm(0)?;
+    session.write(0, &RESISTANCE_50)?;
+    session.confirm(0)?;
+    session.write(0, &STOP)?;
+    session.state("now")?;
+    session.confirm(0)
 }
 
 // Client 0 disconnects, which frees control: client 1 takes it, and resets the machine.
-fn hand_over(driven: Console) -> Console {
-    let mut console = disconnect(driven, 0);
-    state(b"now: ", console);
-    console = write(console, 1, &REQUEST_CONTROL);
-    state(b"now: ", console);
-    console = confirm(console, 1);
-    console = write(console, 1, &RESET);
-    state(b"now: ", console);
-    confirm(console, 1)
+fn hand_over(session: &mut Session<impl Print>) -> io::Result<()> {
+    session.disconnect(0)?;
+    session.state("now")?;
+    session.write(1, &REQUEST_CONTROL)?;
+    session.state("now")?;
+    session.confirm(1)?;
+    session.write(1, &RESET)?;
+    session.state("now")?;
+    session.confirm(1)
 }
 
-fn main() {
+fn main(rt: HostRuntime) -> io::Result<()> {
     let octets = FEATURE.to_octets();
-    print(b"Feature value:");
-    print_octets(&octets);
-    print(b"\n");
+    println!(rt; "Feature value:{}", Octets(&octets))?;
     let reply = Console::open(&octets, RANGES, SPEEDS);
-    let outcome = reply.outcome;
-    match outcome {
+    match reply.outcome {
         Outcome::Done => {
-            state(b"a machine is opened: ", reply.console);
-            hand_over(drive(start(begin(reply.console))));
+            let mut session = Session {
+                rt,
+                console: reply.console,
+            };
+            session.state("a machine is opened")?;
+            begin(&mut session)?;
+            start(&mut session)?;
+            drive(&mut session)?;
+            hand_over(&mut session)
         }
-        Outcome::Refused(refusal) => {
-            print_number(b"refused ", refusal.number() as u64);
-            print(b"\n");
-        }
+        Outcome::Refused(refusal) => println!(rt; "refused {}", refusal.number()),
     }
 }

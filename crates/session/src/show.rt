@@ -1,102 +1,72 @@
-// The calls of the control point, each made and printed as a line: a function takes a console and
-// returns the console after the call. `state` prints the state of its machine.
-use output::{first, print, print_number, print_octets};
+// A session at the control point: each call of a client is made, printed as a line, and leaves the
+// console after it. `state` prints the state of its machine.
+use output::answer::Answer;
+use output::{Holder, Octets};
 use record::octets::u16_at;
-use record::refusal::Refusal;
-use service::control::counted::Counted;
-use service::control::machine::{Mode, Who};
-use service::control::{Console, Outcome, Reply};
+use service::control::machine::Mode;
+use service::control::{Console, Reply};
+use std::{fmt, io};
 
 // The op code that stores the speed.
 const SET_SPEED: u8 = 0x02;
 
-// A client writes an op code and its parameter. A real console sends what is printed here.
-pub(crate) fn write(console: Console, client: u8, octets: &[u8]) -> Console {
-    print_number(b"client ", client as u64);
-    print(b" writes");
-    print_octets(octets);
-    let reply = console.write(client, octets);
-    let outcome = reply.outcome;
-    match outcome {
-        Outcome::Done => {
-            // 80, the op code, the result, and after a start of spin down the target speeds: the
-            // client has to confirm it
-            send(b": response", reply.response);
-            // none unless the write succeeded
-            send(b", status", reply.status);
-        }
-        // 10, 17, 18, 19 or 20
-        Outcome::Refused(refusal) => refuse(refusal),
-    }
-    print(b"\n");
-    // the console after the call
-    reply.console
+// The console that is called, and where the calls are printed.
+#[derive(Drop)]
+pub(crate) struct Session<R: Print> {
+    pub(crate) rt: R,
+    pub(crate) console: Console,
 }
 
-// A label, then octets; nothing if there are none.
-fn send(label: &[u8], counted: Counted) {
-    if counted.count == 0 {
-        return;
-    }
-    let octets = counted.octets;
-    print(label);
-    print_octets(first(&octets, counted.count as usize));
-}
-
-fn refuse(refusal: Refusal) {
-    print_number(b": refused ", refusal.number() as u64);
-}
-
-// The line of a call that gives no octets.
-fn show(client: u8, words: &[u8], reply: Reply) -> Console {
-    print_number(b"client ", client as u64);
-    print(words);
-    let outcome = reply.outcome;
-    match outcome {
-        Outcome::Done => {}
-        Outcome::Refused(refusal) => refuse(refusal),
-    }
-    print(b"\n");
-    reply.console
-}
-
-pub(crate) fn connect(console: Console, client: u8) -> Console {
-    show(client, b" connects", console.connect(client))
-}
-
-pub(crate) fn turn_indications_on(console: Console, client: u8) -> Console {
-    show(
-        client,
-        b" turns indications on",
-        console.indicate(client, true),
-    )
-}
-
-pub(crate) fn confirm(console: Console, client: u8) -> Console {
-    show(client, b" confirms", console.confirm(client))
-}
-
-pub(crate) fn disconnect(console: Console, client: u8) -> Console {
-    show(client, b" disconnects", console.disconnect(client))
-}
-
-// What the machine does, who holds control, and the speed that is set.
-pub(crate) fn state(label: &[u8], console: Console) {
-    let machine = console.machine;
-    let mode = machine.mode;
-    let holder = machine.holder;
-    let speed = console.setting(SET_SPEED);
-    let octets = speed.octets;
-    print(label);
+fn name(mode: Mode) -> &'static str {
     match mode {
-        Mode::Stopped => print(b"stopped"),
-        Mode::Running => print(b"running"),
-        Mode::Paused => print(b"paused"),
+        Mode::Stopped => "stopped",
+        Mode::Running => "running",
+        Mode::Paused => "paused",
     }
-    match holder {
-        Who::Nobody => print(b", nobody"),
-        Who::Client(client) => print_number(b", client ", client as u64),
+}
+
+impl<R: Print> Session<R> {
+    // The line of a call, and the console after it.
+    fn answered(&mut self, call: impl fmt::Display + Drop, reply: Reply) -> io::Result<()> {
+        self.console = reply.console;
+        println!(self.rt; "{call}{}", Answer(reply))
     }
-    print_number(b" holds control, speed ", u16_at(&octets, 0) as u64);
-    print(b"\n");
+
+    // A client writes an op code and its parameter.
+    pub(crate) fn write(&mut self, client: u8, octets: &[u8]) -> io::Result<()> {
+        let reply = self.console.write(client, octets);
+        let octets = Octets(octets);
+        self.answered(format_args!("client {client} writes{octets}"), reply)
+    }
+
+    pub(crate) fn connect(&mut self, client: u8) -> io::Result<()> {
+        let reply = self.console.connect(client);
+        self.answered(format_args!("client {client} connects"), reply)
+    }
+
+    pub(crate) fn turn_indications_on(&mut self, client: u8) -> io::Result<()> {
+        let reply = self.console.indicate(client, true);
+        self.answered(format_args!("client {client} turns indications on"), reply)
+    }
+
+    pub(crate) fn confirm(&mut self, client: u8) -> io::Result<()> {
+        let reply = self.console.confirm(client);
+        self.answered(format_args!("client {client} confirms"), reply)
+    }
+
+    pub(crate) fn disconnect(&mut self, client: u8) -> io::Result<()> {
+        let reply = self.console.disconnect(client);
+        self.answered(format_args!("client {client} disconnects"), reply)
+    }
+
+    // What the machine does, who holds control, and the speed that is set.
+    pub(crate) fn state(&self, label: &str) -> io::Result<()> {
+        let machine = self.console.machine;
+        let speed = u16_at(&self.console.setting(SET_SPEED).octets, 0);
+        println!(self.rt;
+            "{label}: {}, {} holds control, speed {speed}",
+            name(machine.mode),
+            Holder(machine.holder),
+        )
+    }
 }

@@ -7,12 +7,13 @@ mod runs;
 mod show;
 
 use crate::runs::{coast, fail, finish_at_once, ignore, leave, reset, take_control};
-use crate::show::state;
-use output::{print, print_number, print_octets};
+use crate::show::Session;
+use output::Octets;
 use record::feature::Feature;
 use service::control::ranges::{HeartRateRange, Ranges, SignedRange, SpeedRange};
 use service::control::spin_down::TargetSpeeds;
 use service::control::{Console, Outcome};
+use std::io;
 
 // What this bike sends, and what can be set on it: spin down alone.
 const FEATURE: Feature = Feature {
@@ -21,27 +22,21 @@ const FEATURE: Feature = Feature {
 };
 
 // No target can be set, so every range is 0 to 0, in steps of 1.
+const UNUSED: SignedRange = SignedRange {
+    least: 0,
+    greatest: 0,
+    increment: 1,
+};
+
 const RANGES: Ranges = Ranges {
     speed: SpeedRange {
         least: 0,
         greatest: 0,
         increment: 1,
     },
-    inclination: SignedRange {
-        least: 0,
-        greatest: 0,
-        increment: 1,
-    },
-    resistance: SignedRange {
-        least: 0,
-        greatest: 0,
-        increment: 1,
-    },
-    power: SignedRange {
-        least: 0,
-        greatest: 0,
-        increment: 1,
-    },
+    inclination: UNUSED,
+    resistance: UNUSED,
+    power: UNUSED,
     heart_rate: HeartRateRange {
         least: 0,
         greatest: 0,
@@ -55,31 +50,28 @@ const SPEEDS: TargetSpeeds = TargetSpeeds {
     high: 2000,
 };
 
-// The session: each run begins with the console that the one before it leaves.
-fn calibrate(opened: Console) {
-    let held = take_control(opened);
-    let coasted = coast(held);
-    let failed = fail(coasted);
-    let ignored = ignore(failed);
-    let finished = finish_at_once(ignored);
-    leave(reset(finished));
+// The session: its runs in turn, all on one console.
+fn calibrate(session: &mut Session<impl Print>) -> io::Result<()> {
+    take_control(session)?;
+    coast(session)?;
+    fail(session)?;
+    ignore(session)?;
+    finish_at_once(session)?;
+    reset(session)?;
+    leave(session)
 }
 
-fn main() {
+fn main(rt: HostRuntime) -> io::Result<()> {
     let octets = FEATURE.to_octets();
-    print(b"Feature value:");
-    print_octets(&octets);
-    print(b"\n");
+    println!(rt; "Feature value:{}", Octets(&octets))?;
     let reply = Console::open(&octets, RANGES, SPEEDS);
-    let outcome = reply.outcome;
-    match outcome {
+    match reply.outcome {
         Outcome::Done => {
-            state(b"a machine is opened: ", reply.console);
-            calibrate(reply.console);
+            let console = reply.console;
+            let mut session = Session { rt, console };
+            session.state("a machine is opened")?;
+            calibrate(&mut session)
         }
-        Outcome::Refused(refusal) => {
-            print_number(b"refused ", refusal.number() as u64);
-            print(b"\n");
-        }
+        Outcome::Refused(refusal) => println!(rt; "refused {}", refusal.number()),
     }
 }

@@ -1,103 +1,79 @@
-// The calls of the control point that a spin down needs, each made and printed as a line: a
-// function takes a console and returns the console after the call. `state` prints who holds
-// control, and the run.
-use output::{first, print, print_number, print_octets};
-use record::refusal::Refusal;
-use service::control::counted::Counted;
-use service::control::machine::Who;
+// A session at the control point, with the calls that a spin down needs: each is made, printed as a
+// line, and leaves the console after it. `state` prints who holds control, and the run.
+use output::answer::Answer;
+use output::{Holder, Octets};
 use service::control::spin_down::Run;
-use service::control::{Console, Outcome, Reply};
+use service::control::{Console, Reply};
+use std::{fmt, io};
 
-// The rest of a call's line: the response and the status with its label, or the refusal. A real
-// console sends what is printed here.
-fn answer(label: &[u8], reply: Reply) -> Console {
-    let outcome = reply.outcome;
-    match outcome {
-        Outcome::Done => {
-            // 80, the op code and the result; after a start that succeeds also low and high
-            send(b": response", reply.response);
-            // 14 04 and 14 02 are given by a flywheel speed alone
-            send(label, reply.status);
-        }
-        Outcome::Refused(refusal) => refuse(refusal),
-    }
-    print(b"\n");
-    // the console after the call
-    reply.console
+// The console that is called, and where the calls are printed. The program session has one like it:
+// a shared one would be public, and what is public has a contract, which no printing has.
+#[derive(Drop)]
+pub(crate) struct Session<R: Print> {
+    pub(crate) rt: R,
+    pub(crate) console: Console,
 }
 
-// A label, then octets; nothing if there are none.
-fn send(label: &[u8], counted: Counted) {
-    if counted.count == 0 {
-        return;
-    }
-    let octets = counted.octets;
-    print(label);
-    print_octets(first(&octets, counted.count as usize));
-}
-
-fn refuse(refusal: Refusal) {
-    print_number(b": refused ", refusal.number() as u64);
-}
-
-// The flywheel turns at a speed, in hundredths of a km/h.
-pub(crate) fn flywheel(console: Console, speed: u16) -> Console {
-    print_number(b"flywheel speed ", speed as u64);
-    answer(b": status", console.flywheel(speed))
-}
-
-// A client writes an op code and its parameter.
-fn write(console: Console, client: u8, octets: &[u8]) -> Console {
-    print_number(b"client ", client as u64);
-    print(b" writes");
-    print_octets(octets);
-    answer(b", status", console.write(client, octets))
-}
-
-// A client writes, and confirms the response.
-pub(crate) fn exchange(console: Console, client: u8, octets: &[u8]) -> Console {
-    confirm(write(console, client, octets), client)
-}
-
-// The line of a client's call that gives no octets.
-fn show(client: u8, words: &[u8], reply: Reply) -> Console {
-    print_number(b"client ", client as u64);
-    print(words);
-    answer(b", status", reply)
-}
-
-fn confirm(console: Console, client: u8) -> Console {
-    show(client, b" confirms", console.confirm(client))
-}
-
-// A client connects and turns its indications on, without which it cannot write.
-pub(crate) fn join(console: Console, client: u8) -> Console {
-    let connected = show(client, b" connects", console.connect(client));
-    show(
-        client,
-        b" turns indications on",
-        connected.indicate(client, true),
-    )
-}
-
-pub(crate) fn disconnect(console: Console, client: u8) -> Console {
-    show(client, b" disconnects", console.disconnect(client))
-}
-
-// Who holds control, and the run.
-pub(crate) fn state(label: &[u8], console: Console) {
-    let machine = console.machine;
-    let holder = machine.holder;
-    let run = machine.run;
-    print(label);
-    match holder {
-        Who::Nobody => print(b"nobody"),
-        Who::Client(client) => print_number(b"client ", client as u64),
-    }
-    print(b" holds control, ");
+fn name(run: Run) -> &'static str {
     match run {
-        Run::Off => print(b"no run\n"),
-        Run::Quiet => print(b"a run that has said nothing\n"),
-        Run::Warned => print(b"a run that has said 4\n"),
+        Run::Off => "no run",
+        Run::Quiet => "a run that has said nothing",
+        Run::Warned => "a run that has said 4",
+    }
+}
+
+impl<R: Print> Session<R> {
+    // The line of a call, and the console after it.
+    fn answered(&mut self, call: impl fmt::Display + Drop, reply: Reply) -> io::Result<()> {
+        self.console = reply.console;
+        println!(self.rt; "{call}{}", Answer(reply))
+    }
+
+    // The flywheel turns at a speed, in hundredths of a km/h: this alone gives the status 14 04 or
+    // 14 02.
+    pub(crate) fn flywheel(&mut self, speed: u16) -> io::Result<()> {
+        let reply = self.console.flywheel(speed);
+        self.answered(format_args!("flywheel speed {speed}"), reply)
+    }
+
+    // A client writes an op code and its parameter.
+    fn write(&mut self, client: u8, octets: &[u8]) -> io::Result<()> {
+        let reply = self.console.write(client, octets);
+        let octets = Octets(octets);
+        self.answered(format_args!("client {client} writes{octets}"), reply)
+    }
+
+    fn confirm(&mut self, client: u8) -> io::Result<()> {
+        let reply = self.console.confirm(client);
+        self.answered(format_args!("client {client} confirms"), reply)
+    }
+
+    // A client writes, and confirms the response.
+    pub(crate) fn exchange(&mut self, client: u8, octets: &[u8]) -> io::Result<()> {
+        self.write(client, octets)?;
+        self.confirm(client)
+    }
+
+    // A client connects and turns its indications on, without which it cannot write.
+    pub(crate) fn join(&mut self, client: u8) -> io::Result<()> {
+        let connected = self.console.connect(client);
+        self.answered(format_args!("client {client} connects"), connected)?;
+        let indicating = self.console.indicate(client, true);
+        self.answered(
+            format_args!("client {client} turns indications on"),
+            indicating,
+        )
+    }
+
+    pub(crate) fn disconnect(&mut self, client: u8) -> io::Result<()> {
+        let reply = self.console.disconnect(client);
+        self.answered(format_args!("client {client} disconnects"), reply)
+    }
+
+    // Who holds control, and the run.
+    pub(crate) fn state(&self, label: &str) -> io::Result<()> {
+        let machine = self.console.machine;
+        let holder = Holder(machine.holder);
+        println!(self.rt; "{label}: {holder} holds control, {}", name(machine.run))
     }
 }

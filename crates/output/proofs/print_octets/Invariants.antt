@@ -1,8 +1,0 @@
--- `print_octets` is safe and ends: the loop's end is the slice's length, and the measure is the octets left. Assumes nothing.
-use mathlib.Core.Path.{◌≡◌}
-use lib.ListN.{length}
-use Rattle.output.proofs.print_octets.Given as goal
-
-abbrev pub invariant-loop-i : goal.invariant-loop-i
-invariant-loop-i l =
-    l.i-end ≡ length l.s
