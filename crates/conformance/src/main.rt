@@ -11,13 +11,16 @@ mod procedures;
 mod records;
 mod statuses;
 
-fn main() {
-    outside::print_generic();
-    bench::run_feature();
-    outside::print_reads();
-    notifications::run_all();
-    outside::print_training();
-    statuses::run_all();
-    procedures::run_all();
-    errors::run_all();
+use crate::outside::{GENERIC, READS, TRAINING};
+use std::io;
+
+fn main(rt: HostRuntime) -> io::Result<()> {
+    print!(rt; "{GENERIC}")?;
+    bench::run_feature(&rt)?;
+    print!(rt; "{READS}")?;
+    notifications::run_all(&rt)?;
+    print!(rt; "{TRAINING}")?;
+    statuses::run_all(&rt)?;
+    procedures::run_all(&rt)?;
+    errors::run_all(&rt)
 }

@@ -1,7 +1,7 @@
 // An indoor bike that rolls downhill: its flywheel drives the pedals, and the power is negative.
-use crate::round::{blank, split_and_collect};
-use record::layout::INDOOR_BIKE;
-use record::record::Energy;
+use crate::round::BLANK;
+use record::layout;
+use record::record::{Energy, Record};
 
 // The groups of this record, by their bits.
 const CADENCE: u32 = 1 << 2;
@@ -20,29 +20,21 @@ const HEART_RATE: u32 = 1 << 9;
 
 const ELAPSED: u32 = 1 << 11;
 
-pub(crate) fn run() {
-    let energy = Energy {
+pub(crate) const INDOOR_BIKE: Record = Record {
+    kind: layout::INDOOR_BIKE,
+    groups: CADENCE | DISTANCE | RESISTANCE | POWER | AVERAGE_POWER | ENERGY | HEART_RATE | ELAPSED,
+    speed: 3250,
+    cadence: 168,
+    distance: 12400,
+    resistance: 18,
+    power: -35,
+    average_power: 176,
+    energy: Energy {
         total: 287,
         per_hour: 720,
         per_minute: 12,
-    };
-    let mut record = blank(INDOOR_BIKE);
-    record.groups = CADENCE
-        | DISTANCE
-        | RESISTANCE
-        | POWER
-        | AVERAGE_POWER
-        | ENERGY
-        | HEART_RATE
-        | ELAPSED;
-    record.speed = 3250;
-    record.cadence = 168;
-    record.distance = 12400;
-    record.resistance = 18;
-    record.power = -35;
-    record.average_power = 176;
-    record.energy = energy;
-    record.heart_rate = 131;
-    record.elapsed = 1500;
-    split_and_collect(record);
-}
+    },
+    heart_rate: 131,
+    elapsed: 1500,
+    ..BLANK
+};

@@ -13,20 +13,23 @@ mod stair_climber;
 mod step_climber;
 mod treadmill;
 
-use output::print;
+use record::record::Record;
+use std::io;
 
-fn main() {
-    print(b"== treadmill\n");
-    treadmill::run();
-    print(b"== cross trainer\n");
-    cross_trainer::run();
-    print(b"== step climber\n");
-    step_climber::run();
-    print(b"== stair climber\n");
-    stair_climber::run();
-    print(b"== rower\n");
-    rower::run();
-    print(b"== indoor bike\n");
-    indoor_bike::run();
-    lost::run();
+// The record of each kind, by the kind's name.
+const RECORDS: [(&str, Record); 6] = [
+    ("treadmill", treadmill::TREADMILL),
+    ("cross trainer", cross_trainer::CROSS_TRAINER),
+    ("step climber", step_climber::STEP_CLIMBER),
+    ("stair climber", stair_climber::STAIR_CLIMBER),
+    ("rower", rower::ROWER),
+    ("indoor bike", indoor_bike::INDOOR_BIKE),
+];
+
+fn main(rt: HostRuntime) -> io::Result<()> {
+    for (name, record) in RECORDS {
+        println!(rt; "== {name}")?;
+        round::split_and_collect(&rt, record)?;
+    }
+    lost::run(&rt)
 }

@@ -1,18 +1,21 @@
 // A record split into its parts, and the parts collected into a record again: the same for every
 // kind.
 use listing::lines::{LONGEST_LINES, put_record, put_refused};
-use output::{first, print, print_number, print_octets};
+use output::{Ascii, Octets, first};
 use record::record::{
     Climb, Energy, Force, Gain, Inclination, RampAngle, Record, Slope, StepRates, Stroke,
 };
 use record::refusal::Refusal;
-use record::split::{MOST_PARTS, SplitAnswer, split};
+use record::split;
+use record::split::{Extent, MOST_PARTS, SplitAnswer};
 use service::collector::{Collected, Collection, Opening, Told, collect, open};
+use std::io;
 
 // The most octets of a notification; 20 is the least payload that the splitter takes.
 pub(crate) const PAYLOAD: usize = 20;
 
-const BLANK: Record = Record {
+// No optional group, and every value 0.
+pub(crate) const BLANK: Record = Record {
     kind: 0,
     groups: 0,
     direction: 0,
@@ -60,113 +63,113 @@ const BLANK: Record = Record {
     average_cadence: 0,
 };
 
-// The record of a kind with no optional group and every value 0.
-pub(crate) fn blank(kind: u8) -> Record {
-    let mut record = BLANK;
-    record.kind = kind;
-    record
+// Why a record does not get through: it is refused, or standard output fails.
+#[derive(Drop)]
+pub(crate) enum Stop {
+    Refused(Refusal),
+    Output(io::Error),
 }
 
-pub(crate) fn show_refused(refusal: Refusal) {
+impl From<Refusal> for Stop {
+    fn from(refusal: Refusal) -> Stop {
+        Stop::Refused(refusal)
+    }
+}
+
+impl From<io::Error> for Stop {
+    fn from(error: io::Error) -> Stop {
+        Stop::Output(error)
+    }
+}
+
+// Ends a run: prints the line of a refusal, and gives back what standard output fails with.
+pub(crate) fn finish(rt: &impl Print, ran: Result<(), Stop>) -> io::Result<()> {
+    match ran {
+        Ok(()) => Ok(()),
+        Err(Stop::Refused(refusal)) => show_refused(rt, refusal),
+        Err(Stop::Output(error)) => Err(error),
+    }
+}
+
+fn show_refused(rt: &impl Print, refusal: Refusal) -> io::Result<()> {
     let mut lines = [0u8; LONGEST_LINES];
     let length = put_refused(&mut lines, 0, refusal);
-    print(first(&lines, length));
+    print!(rt; "{}", Ascii(first(&lines, length)))
 }
 
-fn show_record(record: Record) {
+fn show_record(rt: &impl Print, record: Record) -> io::Result<()> {
     let mut lines = [0u8; LONGEST_LINES];
     let length = put_record(&mut lines, 0, 1, record);
-    print(first(&lines, length));
+    print!(rt; "{}", Ascii(first(&lines, length)))
 }
 
-fn show_part(part: usize, parts: usize, octets: &[u8]) {
-    print_number(b"part=", part as u64);
-    print_number(b" of ", parts as u64);
-    print(b":");
-    print_octets(octets);
-    print(b"\n");
-}
-
-// Sends one part of a record, which here means printing it; returns the number of parts, or 0 if
-// it is refused.
-fn send(record: Record, part: usize, out: &mut [u8]) -> usize {
-    match split(record, PAYLOAD, part, out) {
-        SplitAnswer::Part(extent) => {
-            show_part(part, extent.parts, first(out, extent.length));
-            extent.parts
-        }
-        SplitAnswer::Refused(refusal) => {
-            show_refused(refusal);
-            0
-        }
+// A part of a record, in the lent octets.
+pub(crate) fn split(
+    record: Record,
+    payload: usize,
+    part: usize,
+    out: &mut [u8],
+) -> Result<Extent, Refusal> {
+    match split::split(record, payload, part, out) {
+        SplitAnswer::Part(extent) => Ok(extent),
+        SplitAnswer::Refused(refusal) => Err(refusal),
     }
+}
+
+// A collection that holds nothing.
+pub(crate) fn opened(kind: u8, told: Told) -> Result<Collection, Refusal> {
+    let opened = open(kind, told);
+    match opened.answer {
+        Opening::Opened => Ok(opened.collection),
+        Opening::Refused(refusal) => Err(refusal),
+    }
+}
+
+// Sends one part of a record, which here means printing it; returns the number of parts.
+fn send(rt: &impl Print, record: Record, part: usize) -> Result<usize, Stop> {
+    let mut out = [0u8; PAYLOAD];
+    let extent = split(record, PAYLOAD, part, &mut out)?;
+    let parts = extent.parts;
+    let octets = Octets(first(&out, extent.length));
+    println!(rt; "part={part} of {parts}:{octets}")?;
+    Ok(parts)
 }
 
 // Sends a record: its parts from 0 on, as many as the answers give. No record has more than
 // MOST_PARTS.
-fn send_parts(record: Record) {
-    let mut space = [0u8; PAYLOAD];
-    let out: &mut [u8] = &mut space;
+fn send_parts(rt: &impl Print, record: Record) -> Result<(), Stop> {
     for part in 0..MOST_PARTS {
-        if send(record, part, out) <= part + 1 {
-            return;
+        if send(rt, record, part)? <= part + 1 {
+            break;
         }
     }
+    Ok(())
 }
 
-// Shows a collection's answer, or nothing while it waits for another part; returns whether it
-// waits.
-fn show_answer(answer: Collected) -> bool {
-    match answer {
-        Collected::Waiting { dropped: _ } => true,
-        Collected::Record { record, dropped: _ } => {
-            show_record(record);
-            false
-        }
-        Collected::Refused {
-            refusal,
-            dropped: _,
-        } => {
-            show_refused(refusal);
-            false
-        }
-    }
-}
-
-// Receives a part; returns its length, or 0 if there is no such part.
-fn receive(record: Record, part: usize, out: &mut [u8]) -> usize {
-    match split(record, PAYLOAD, part, out) {
-        SplitAnswer::Part(extent) => extent.length,
-        SplitAnswer::Refused(_) => 0,
-    }
-}
-
-// Gives the parts of a record to a collection, one after the other, until it waits for no more.
-fn collect_parts(record: Record, opened: Collection) {
-    let mut collection = opened;
-    let mut space = [0u8; PAYLOAD];
-    let out: &mut [u8] = &mut space;
+// Gives the parts of a record to a collection, one after the other, until a record comes out, and
+// prints it.
+fn collect_parts(rt: &impl Print, record: Record) -> Result<(), Stop> {
+    let mut collection = opened(record.kind, Told::Open)?;
     for part in 0..MOST_PARTS {
-        let length = receive(record, part, out);
-        let step = collect(collection, first(out, length));
-        let answer = step.answer;
-        if !show_answer(answer) {
-            return;
+        let mut out = [0u8; PAYLOAD];
+        let extent = split(record, PAYLOAD, part, &mut out)?;
+        let step = collect(collection, first(&out, extent.length));
+        match step.answer {
+            Collected::Waiting { .. } => collection = step.next,
+            Collected::Record { record, .. } => return Ok(show_record(rt, record)?),
+            Collected::Refused { refusal, .. } => return Err(Stop::Refused(refusal)),
         }
-        collection = step.next;
     }
+    Ok(())
+}
+
+fn run(rt: &impl Print, record: Record) -> Result<(), Stop> {
+    send_parts(rt, record)?;
+    collect_parts(rt, record)
 }
 
 // Splits a record at payload 20, collects its parts, and prints the parts and the record that
 // comes out, or the number of a refusal.
-pub(crate) fn split_and_collect(record: Record) {
-    let opened = open(record.kind, Told::Open);
-    let answer = opened.answer;
-    match answer {
-        Opening::Opened => {
-            send_parts(record);
-            collect_parts(record, opened.collection);
-        }
-        Opening::Refused(refusal) => show_refused(refusal),
-    }
+pub(crate) fn split_and_collect(rt: &impl Print, record: Record) -> io::Result<()> {
+    finish(rt, run(rt, record))
 }

@@ -1,7 +1,7 @@
 // A rower whose first part fills the payload to the last octet.
-use crate::round::{blank, split_and_collect};
-use record::layout::ROWER;
-use record::record::{Energy, Stroke};
+use crate::round::BLANK;
+use record::layout;
+use record::record::{Energy, Record, Stroke};
 
 // The groups of this record, by their bits.
 const AVERAGE_STROKE_RATE: u32 = 1 << 1;
@@ -22,18 +22,9 @@ const HEART_RATE: u32 = 1 << 9;
 
 const ELAPSED: u32 = 1 << 11;
 
-pub(crate) fn run() {
-    let stroke = Stroke {
-        rate: 52,
-        count: 318,
-    };
-    let energy = Energy {
-        total: 148,
-        per_hour: 840,
-        per_minute: 14,
-    };
-    let mut record = blank(ROWER);
-    record.groups = AVERAGE_STROKE_RATE
+pub(crate) const ROWER: Record = Record {
+    kind: layout::ROWER,
+    groups: AVERAGE_STROKE_RATE
         | DISTANCE
         | PACE
         | AVERAGE_PACE
@@ -41,16 +32,23 @@ pub(crate) fn run() {
         | AVERAGE_POWER
         | ENERGY
         | HEART_RATE
-        | ELAPSED;
-    record.stroke = stroke;
-    record.average_stroke_rate = 50;
-    record.distance = 2750;
-    record.pace = 118;
-    record.average_pace = 121;
-    record.power = 205;
-    record.average_power = 192;
-    record.energy = energy;
-    record.heart_rate = 156;
-    record.elapsed = 665;
-    split_and_collect(record);
-}
+        | ELAPSED,
+    stroke: Stroke {
+        rate: 52,
+        count: 318,
+    },
+    average_stroke_rate: 50,
+    distance: 2750,
+    pace: 118,
+    average_pace: 121,
+    power: 205,
+    average_power: 192,
+    energy: Energy {
+        total: 148,
+        per_hour: 840,
+        per_minute: 14,
+    },
+    heart_rate: 156,
+    elapsed: 665,
+    ..BLANK
+};

@@ -11,9 +11,11 @@ mod runs;
 mod samples;
 mod steps;
 
-fn main() {
-    runs::run_all();
-    refusals::run_all();
-    plain::run_all();
-    collections::run_all();
+use std::io;
+
+fn main(rt: HostRuntime) -> io::Result<()> {
+    runs::run_all(&rt)?;
+    refusals::run_all(&rt)?;
+    plain::run_all(&rt)?;
+    collections::run_all(&rt)
 }

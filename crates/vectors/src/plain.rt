@@ -1,67 +1,57 @@
 // Numbers and the Feature value from octets and back.
-use crate::printing::print_refusal;
-use output::{print, print_number, print_octets, print_signed};
+use output::Octets;
 use record::feature::{Feature, FeatureAnswer};
 use record::octets::{s16_at, u24_at, unsigned};
-
-fn run_s16(octets: [u8; 2]) {
-    let z = s16_at(&octets, 0);
-    let bits = unsigned(z);
-    let back = [(bits % 256) as u8, (bits / 256) as u8];
-    print(b"s16");
-    print_octets(&octets);
-    print_signed(b" is ", z);
-    print(b" and back");
-    print_octets(&back);
-    print(b"\n");
-}
-
-fn run_u24(octets: [u8; 3]) {
-    let x = u24_at(&octets, 0);
-    let back = [
-        (x % 256) as u8,
-        (x / 256 % 256) as u8,
-        (x / 65536 % 256) as u8,
-    ];
-    print(b"u24");
-    print_octets(&octets);
-    print_number(b" is ", x as u64);
-    print(b" and back");
-    print_octets(&back);
-    print(b"\n");
-}
-
-fn print_feature(feature: Feature) {
-    let back = feature.to_octets();
-    print_number(b" features=", feature.features as u64);
-    print_number(b" targets=", feature.targets as u64);
-    print(b" and back");
-    print_octets(&back);
-}
+use std::io;
 
 // "Other bits are written 0 and ignored when read."
-fn run_feature(octets: &[u8]) {
-    print(b"feature");
-    print_octets(octets);
-    match Feature::from_octets(octets) {
-        FeatureAnswer::Feature(feature) => print_feature(feature),
-        FeatureAnswer::Refused(refusal) => print_refusal(refusal),
+const FEATURES: [&[u8]; 5] = [
+    b"\xFF\xFF\xFF\xFF\xFF\xFF\xFF\xFF",
+    b"\x00\x00\x01\x00\x00\x00\x02\x00",
+    b"\x86\x56\x00\x00\x0C\x20\x00\x00",
+    b"\x00\x00\x00\x00\x00\x00\x00",
+    b"\x00\x00\x00\x00\x00\x00\x00\x00\x00",
+];
+
+fn run_s16(rt: &impl Print) -> io::Result<()> {
+    for octets in [[0xFF, 0xFF], [0x00, 0x80], [0xFF, 0x7F], [0x00, 0x00]] {
+        let z = s16_at(&octets, 0);
+        let back = unsigned(z).to_le_bytes();
+        println!(rt; "s16{} is {z} and back{}", Octets(&octets), Octets(&back))?;
     }
-    print(b"\n");
+    Ok(())
 }
 
-pub(crate) fn run_all() {
-    print(b"numbers\n");
-    run_s16([0xFF, 0xFF]);
-    run_s16([0x00, 0x80]);
-    run_s16([0xFF, 0x7F]);
-    run_s16([0x00, 0x00]);
-    run_u24([0xFF, 0xFF, 0xFF]);
-    run_u24([0x01, 0x02, 0x03]);
-    print(b"feature values\n");
-    run_feature(b"\xFF\xFF\xFF\xFF\xFF\xFF\xFF\xFF");
-    run_feature(b"\x00\x00\x01\x00\x00\x00\x02\x00");
-    run_feature(b"\x86\x56\x00\x00\x0C\x20\x00\x00");
-    run_feature(b"\x00\x00\x00\x00\x00\x00\x00");
-    run_feature(b"\x00\x00\x00\x00\x00\x00\x00\x00\x00");
+fn run_u24(rt: &impl Print) -> io::Result<()> {
+    for octets in [[0xFF, 0xFF, 0xFF], [0x01, 0x02, 0x03]] {
+        let x = u24_at(&octets, 0);
+        let [low, middle, high, _] = x.to_le_bytes();
+        let back = [low, middle, high];
+        println!(rt; "u24{} is {x} and back{}", Octets(&octets), Octets(&back))?;
+    }
+    Ok(())
+}
+
+fn run_features(rt: &impl Print) -> io::Result<()> {
+    for octets in FEATURES {
+        print!(rt; "feature{}", Octets(octets))?;
+        match Feature::from_octets(octets) {
+            FeatureAnswer::Feature(value) => {
+                let Feature { features, targets } = value;
+                let back = value.to_octets();
+                print!(rt; " features={features} targets={targets}")?;
+                println!(rt; " and back{}", Octets(&back))?;
+            }
+            FeatureAnswer::Refused(refusal) => println!(rt; " refused={}", refusal.number())?,
+        }
+    }
+    Ok(())
+}
+
+pub(crate) fn run_all(rt: &impl Print) -> io::Result<()> {
+    println!(rt; "numbers")?;
+    run_s16(rt)?;
+    run_u24(rt)?;
+    println!(rt; "feature values")?;
+    run_features(rt)
 }

@@ -1,153 +1,132 @@
 // Records split into parts, and each part read back.
-use crate::printing::{LENT, UNTOUCHED, print_either, print_refusal};
-use crate::samples::{Values, sample};
-use output::{first, print, print_number, print_octets};
-use record::groups::listed;
+use crate::printing::{LENT, UNTOUCHED};
+use crate::samples::{Form, Values};
+use output::{Octets, first};
+use record::groups::{BITS, has, listed};
 use record::notification::{Part, PartAnswer, read};
-use record::numbers::{numbers_of, record_of};
+use record::numbers::numbers_of;
 use record::record::Record;
 use record::refusal::Refusal;
-use record::split::{Extent, SplitAnswer, split};
+use record::split::{Extent, MOST_PARTS, SplitAnswer, split};
+use std::io;
 
-// What a run stops with on a refusal: nothing was read.
-fn nothing(refusal: Refusal) -> Part {
-    print_refusal(refusal);
-    print(b"\n");
-    Part {
-        groups: 0,
-        last: true,
-        direction: 0,
+// The kinds, and the cross trainer's two directions.
+const KINDS: [(u8, u8); 7] = [(1, 0), (2, 0), (2, 1), (3, 0), (4, 0), (5, 0), (6, 0)];
+
+// "Numbers to hold against the code": kinds, directions and payloads.
+const TABLE: [(u8, u8, usize); 8] = [
+    (1, 0, 20),
+    (2, 1, 20),
+    (3, 0, 20),
+    (4, 0, 20),
+    (5, 0, 20),
+    (6, 0, 20),
+    (6, 0, 29),
+    (6, 0, 30),
+];
+
+// A part that was split off a record and read.
+#[derive(Clone, Copy)]
+struct Run {
+    octets: [u8; LENT],
+    extent: Extent,
+    read: Part,
+}
+
+// Splits off a part of a record, and reads it into the numbers held.
+fn run_part(r: Record, payload: usize, part: usize, held: &mut [u32; 31]) -> Result<Run, Refusal> {
+    let mut octets = [UNTOUCHED; LENT];
+    let extent = match split(r, payload, part, &mut octets) {
+        SplitAnswer::Part(extent) => extent,
+        SplitAnswer::Refused(refusal) => return Err(refusal),
+    };
+    match read(r.kind, first(&octets, extent.length), held) {
+        PartAnswer::Part(read) => Ok(Run {
+            octets,
+            extent,
+            read,
+        }),
+        PartAnswer::Refused(refusal) => Err(refusal),
     }
-}
-
-pub(crate) fn print_record(r: Record) {
-    print_number(b"kind=", r.kind as u64);
-    print_number(b" groups=", r.groups as u64);
-    print_number(b" direction=", r.direction as u64);
-}
-
-fn print_part(r: Record, payload: usize, part: usize, extent: Extent, buffer: &[u8]) {
-    print_record(r);
-    print_number(b" payload=", payload as u64);
-    print_number(b" part=", part as u64);
-    print_number(b" of ", extent.parts as u64);
-    print_number(b" length=", extent.length as u64);
-    print(b":");
-    print_octets(first(buffer, extent.length));
-    print(b"\n");
-}
-
-// Reads the first octets of a buffer into the numbers held.
-fn read_first(kind: u8, buffer: &[u8], length: usize, held: &mut [u32; 31]) -> Part {
-    match read(kind, first(buffer, length), held) {
-        PartAnswer::Part(part) => part,
-        PartAnswer::Refused(refusal) => nothing(refusal),
-    }
-}
-
-// Prints a part of a record, and reads it into the numbers held.
-fn run_part(r: Record, payload: usize, part: usize, held: &mut [u32; 31]) -> Part {
-    let mut buffer = [UNTOUCHED; LENT];
-    match split(r, payload, part, &mut buffer) {
-        SplitAnswer::Part(extent) => {
-            print_part(r, payload, part, extent, &buffer);
-            read_first(r.kind, &buffer, extent.length, held)
-        }
-        SplitAnswer::Refused(refusal) => nothing(refusal),
-    }
-}
-
-pub(crate) fn same_numbers(a: &[u32; 31], b: &[u32; 31]) -> bool {
-    for i in 0..31 {
-        if a[i] != b[i] {
-            return false;
-        }
-    }
-    true
 }
 
 // Whether two records are equal, by their kinds, groups, directions and wire numbers.
 fn is_same(a: Record, b: Record) -> bool {
-    if a.kind != b.kind || a.groups != b.groups || a.direction != b.direction {
-        return false;
-    }
-    let x = numbers_of(a);
-    let y = numbers_of(b);
-    same_numbers(&x, &y)
+    Form::from(a) == Form::from(b) && numbers_of(a) == numbers_of(b)
 }
 
-fn print_back(equal: bool) {
-    print_either(equal, b"back=equal\n", b"back=different\n");
-}
-
-// Runs the parts of a record up to the last; sixteen is a bound that no record reaches.
-fn run_record(r: Record, payload: usize) {
+// Runs the parts of a record up to the last, and compares the record with what they give.
+fn run_record(rt: &impl Print, r: Record, payload: usize) -> io::Result<()> {
+    let form = Form::from(r);
     let mut held = [0u32; 31];
-    let mut groups: u32 = 0;
-    for i in 0..16 {
-        let part = run_part(r, payload, i, &mut held);
-        groups = groups | part.groups;
-        if part.last {
-            let back = record_of(r.kind, groups, part.direction, &held);
-            print_back(is_same(r, back));
-            return;
+    let mut groups = 0;
+    for part in 0..MOST_PARTS {
+        let run = match run_part(r, payload, part, &mut held) {
+            Ok(run) => run,
+            Err(refusal) => return println!(rt; " refused={}", refusal.number()),
+        };
+        let Extent { length, parts } = run.extent;
+        let octets = Octets(first(&run.octets, length));
+        println!(rt; "{form} payload={payload} part={part} of {parts} length={length}:{octets}")?;
+        groups |= run.read.groups;
+        if run.read.last {
+            let direction = run.read.direction;
+            let back = Form {
+                groups,
+                direction,
+                ..form
+            };
+            let same = is_same(r, back.with(&held));
+            return println!(rt; "back={}", if same { "equal" } else { "different" });
         }
     }
-}
-
-// Runs the record of a kind with one group, if the kind has it.
-fn run_alone(values: Values, kind: u8, group: u32, direction: u8) {
-    if listed(kind) & group != 0 {
-        run_record(sample(values, kind, group, direction), 20);
-    }
-}
-
-fn run_each(values: Values, kind: u8, direction: u8) {
-    let mut group: u32 = 2;
-    while group < 32768 {
-        run_alone(values, kind, group, direction);
-        group *= 2;
-    }
+    Ok(())
 }
 
 // The records of a kind with all optional groups, with none, and with each alone.
-fn run_kind(values: Values, kind: u8, direction: u8) {
-    run_record(sample(values, kind, listed(kind), direction), 20);
-    run_record(sample(values, kind, 0, direction), 20);
-    run_each(values, kind, direction);
+fn run_kind(rt: &impl Print, values: Values, kind: u8, direction: u8) -> io::Result<()> {
+    let all = Form {
+        kind,
+        groups: listed(kind),
+        direction,
+    };
+    run_record(rt, all.sample(values), 20)?;
+    let none = Form { groups: 0, ..all };
+    run_record(rt, none.sample(values), 20)?;
+    for bit in 1..BITS {
+        if has(all.groups, bit) {
+            let groups = 1 << bit;
+            run_record(rt, Form { groups, ..all }.sample(values), 20)?;
+        }
+    }
+    Ok(())
 }
 
-fn run_kinds(values: Values) {
-    run_kind(values, 1, 0);
-    run_kind(values, 2, 0);
-    run_kind(values, 2, 1);
-    run_kind(values, 3, 0);
-    run_kind(values, 4, 0);
-    run_kind(values, 5, 0);
-    run_kind(values, 6, 0);
+fn run_kinds(rt: &impl Print, values: Values) -> io::Result<()> {
+    for (kind, direction) in KINDS {
+        run_kind(rt, values, kind, direction)?;
+    }
+    Ok(())
 }
 
-fn run_whole(kind: u8, direction: u8, payload: usize) {
-    run_record(sample(Values::Own, kind, listed(kind), direction), payload);
+// All groups, each field with a number of its own.
+fn run_table(rt: &impl Print) -> io::Result<()> {
+    for (kind, direction, payload) in TABLE {
+        let all = Form {
+            kind,
+            groups: listed(kind),
+            direction,
+        };
+        run_record(rt, all.sample(Values::Own), payload)?;
+    }
+    Ok(())
 }
 
-// "Numbers to hold against the code": all groups, each field with a number of its own.
-fn run_table() {
-    run_whole(1, 0, 20);
-    run_whole(2, 1, 20);
-    run_whole(3, 0, 20);
-    run_whole(4, 0, 20);
-    run_whole(5, 0, 20);
-    run_whole(6, 0, 20);
-    run_whole(6, 0, 29);
-    run_whole(6, 0, 30);
-}
-
-pub(crate) fn run_all() {
-    print(b"values=least\n");
-    run_kinds(Values::Least);
-    print(b"values=greatest\n");
-    run_kinds(Values::Greatest);
-    print(b"values=own\n");
-    run_table();
+pub(crate) fn run_all(rt: &impl Print) -> io::Result<()> {
+    println!(rt; "values=least")?;
+    run_kinds(rt, Values::Least)?;
+    println!(rt; "values=greatest")?;
+    run_kinds(rt, Values::Greatest)?;
+    println!(rt; "values=own")?;
+    run_table(rt)
 }

@@ -5,6 +5,8 @@ use record::numbers::{numbers_of, record_of};
 use record::record::{
     Climb, Energy, Force, Gain, Inclination, RampAngle, Record, Slope, StepRates, Stroke,
 };
+use std::fmt;
+use std::fmt::Write;
 
 // Each present field at its least, at its greatest, or at a number of its own.
 #[derive(Clone, Copy)]
@@ -12,24 +14,6 @@ pub(crate) enum Values {
     Least,
     Greatest,
     Own,
-}
-
-fn least(width: Width) -> u32 {
-    match width {
-        Width::U8 => 0,
-        Width::U16 => 0,
-        Width::U24 => 0,
-        Width::S16 => 32768,
-    }
-}
-
-fn greatest(width: Width) -> u32 {
-    match width {
-        Width::U8 => 255,
-        Width::U16 => 65535,
-        Width::U24 => 16777215,
-        Width::S16 => 32767,
-    }
 }
 
 // A record in which each name has a number of its own, so that no two fields can be taken for each other.
@@ -85,51 +69,78 @@ const OWN: Record = Record {
 };
 
 pub(crate) fn number_at(numbers: &[u32; 31], field: u8) -> u32 {
-    let i = field as usize;
-    if i < 31 {
-        return numbers[i];
-    }
-    0
+    numbers.get(usize::from(field)).copied().unwrap_or(0)
 }
 
 pub(crate) fn put_number(numbers: &mut [u32; 31], field: u8, x: u32) {
-    let i = field as usize;
-    if i < 31 {
-        numbers[i] = x;
+    if let Some(number) = numbers.get_mut(usize::from(field)) {
+        *number = x;
     }
 }
 
-fn value(values: Values, row: Row, own: &[u32; 31]) -> u32 {
-    let width = row.2;
-    match values {
-        Values::Least => least(width),
-        Values::Greatest => greatest(width),
-        Values::Own => number_at(own, row.1),
+impl Values {
+    // The wire number of a row's field.
+    fn number(self, row: Row) -> u32 {
+        match (self, row.2) {
+            (Values::Least, Width::S16) => 32768,
+            (Values::Least, _) => 0,
+            (Values::Greatest, Width::U8) => 255,
+            (Values::Greatest, Width::U16) => 65535,
+            (Values::Greatest, Width::U24) => 16777215,
+            (Values::Greatest, Width::S16) => 32767,
+            (Values::Own, _) => number_at(&numbers_of(OWN), row.1),
+        }
     }
 }
 
-// Whether a row's group is present: bit 0, the main one, always is.
-pub(crate) fn is_present(row: Row, groups: u32) -> bool {
-    row.0 == 0 || has(groups, row.0)
+// A record's kind, groups and direction.
+#[derive(Clone, Copy, PartialEq, Eq)]
+pub(crate) struct Form {
+    pub(crate) kind: u8,
+    pub(crate) groups: u32,
+    pub(crate) direction: u8,
 }
 
-// Sets the value of a row's field, if its group is present.
-fn fill_row(values: Values, row: Row, groups: u32, own: &[u32; 31], numbers: &mut [u32; 31]) {
-    if is_present(row, groups) {
-        put_number(numbers, row.1, value(values, row, own));
+impl From<Record> for Form {
+    fn from(r: Record) -> Form {
+        Form {
+            kind: r.kind,
+            groups: r.groups,
+            direction: r.direction,
+        }
     }
 }
 
-fn fill(values: Values, kind: u8, groups: u32, own: &[u32; 31], numbers: &mut [u32; 31]) {
-    for i in 0..row_count(kind) {
-        fill_row(values, row_of(kind, i), groups, own, numbers);
+impl fmt::Display for Form {
+    fn fmt<W: fmt::Write>(&self, f: &mut fmt::Formatter<W>) -> fmt::Result {
+        let Form {
+            kind,
+            groups,
+            direction,
+        } = self;
+        write!(f, "kind={kind} groups={groups} direction={direction}")
     }
 }
 
-// The record of a kind with these groups, each present field at its value.
-pub(crate) fn sample(values: Values, kind: u8, groups: u32, direction: u8) -> Record {
-    let own = numbers_of(OWN);
-    let mut numbers = [0u32; 31];
-    fill(values, kind, groups, &own, &mut numbers);
-    record_of(kind, groups, direction, &numbers)
+impl Form {
+    // Whether a row's group is present: bit 0, the main one, always is.
+    pub(crate) fn has(self, row: Row) -> bool {
+        row.0 == 0 || has(self.groups, row.0)
+    }
+
+    // The record of this form with these wire numbers.
+    pub(crate) fn with(self, numbers: &[u32; 31]) -> Record {
+        record_of(self.kind, self.groups, self.direction, numbers)
+    }
+
+    // The record of this form, each present field at its value.
+    pub(crate) fn sample(self, values: Values) -> Record {
+        let mut numbers = [0u32; 31];
+        for row in (0..row_count(self.kind)).map(|i| row_of(self.kind, i)) {
+            if self.has(row) {
+                put_number(&mut numbers, row.1, values.number(row));
+            }
+        }
+        self.with(&numbers)
+    }
 }
