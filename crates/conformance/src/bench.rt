@@ -2,10 +2,10 @@
 use output::{Octets, first};
 use record::feature::Feature;
 use record::octets::u8_at;
-use service::control::counted::Counted;
+use record::refusal::Refusal;
+use service::control::Console;
 use service::control::ranges::{HeartRateRange, Ranges, SignedRange, SpeedRange};
 use service::control::spin_down::TargetSpeeds;
-use service::control::{Console, Outcome};
 use std::fmt::Write;
 use std::{fmt, io};
 
@@ -95,10 +95,6 @@ pub(crate) struct Bench {
     expected: bool,
 }
 
-fn counted(c: &Counted) -> &[u8] {
-    first(&c.octets, usize::from(c.count))
-}
-
 // Whether a status is this octet and then the parameter that was sent, or, for no octet, is none.
 fn is_status(told: &[u8], sent: &[u8], status: Option<u8>) -> bool {
     match (told, sent, status) {
@@ -109,10 +105,10 @@ fn is_status(told: &[u8], sent: &[u8], status: Option<u8>) -> bool {
 }
 
 // The number of a refusal, 0 for none.
-fn refusal_of(outcome: Outcome) -> u8 {
+fn refusal_of(outcome: Result<(), Refusal>) -> u8 {
     match outcome {
-        Outcome::Done => 0,
-        Outcome::Refused(refusal) => refusal.number(),
+        Ok(()) => 0,
+        Err(refusal) => refusal.number(),
     }
 }
 
@@ -152,8 +148,8 @@ impl Bench {
         status: Option<u8>,
     ) -> io::Result<()> {
         let reply = self.console.write(0, sent);
-        let answer = counted(&reply.response);
-        let told = counted(&reply.status);
+        let answer = reply.response.octets();
+        let told = reply.status.octets();
         let expected = answer == response && is_status(told, sent, status);
         self.go_on(reply.console, expected);
         print!(rt; " sent{} response{}", Octets(sent), Octets(answer))?;
@@ -188,7 +184,7 @@ impl Bench {
     // Feeds a flywheel speed, prints the status, and compares it with 14 and this value.
     pub(crate) fn feed(&mut self, rt: &impl Print, speed: u16, value: u8) -> io::Result<()> {
         let reply = self.console.flywheel(speed);
-        let told = counted(&reply.status);
+        let told = reply.status.octets();
         self.go_on(reply.console, told == [0x14, value].as_slice());
         print!(rt; " flywheel {speed} status{}", Octets(told))
     }

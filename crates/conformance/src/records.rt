@@ -1,9 +1,10 @@
 // A record of each kind as a machine notifies it, and what the test suite checks in its notifications.
 use output::{Octets, first};
 use record::groups::{flags_length, groups_length, has, listed};
-use record::layout::{CROSS_TRAINER, row_count, row_of};
+use record::layout::{CROSS_TRAINER, rows};
+use record::numbers::Wire;
 use record::octets::{u16_at, u24_at};
-use record::split::{MOST_PARTS, SplitAnswer, split_numbers};
+use record::split::{MOST_PARTS, split_numbers};
 use std::io;
 
 // The octets of a notification at the default ATT_MTU, 23.
@@ -26,7 +27,7 @@ struct Seen {
 // The numbers of a record with these groups and the main one; any other is 0.
 fn numbers_of(kind: u8, groups: u32) -> [u32; 31] {
     let mut numbers = [0u32; 31];
-    for row in (0..row_count(kind)).map(|i| row_of(kind, i)) {
+    for row in rows(kind) {
         let field = usize::from(row.1);
         if (row.0 == 0 || has(groups, row.0)) && field < 31 {
             numbers[field] = SAMPLE[field];
@@ -71,13 +72,17 @@ fn look(kind: u8, notification: &[u8]) -> Seen {
 
 // Notifies a record with these groups, up to More Data 0; returns whether each notification is right and all groups have come.
 pub(crate) fn notify_record(rt: &impl Print, kind: u8, groups: u32) -> io::Result<bool> {
-    let numbers = numbers_of(kind, groups);
+    let wire = Wire {
+        kind,
+        groups,
+        direction: 0,
+        numbers: numbers_of(kind, groups),
+    };
     let mut come = 0;
     let mut right = true;
     for i in 0..MOST_PARTS {
         let mut buffer = [0u8; PAYLOAD];
-        let answer = split_numbers(kind, groups, 0, &numbers, PAYLOAD, i, &mut buffer);
-        let SplitAnswer::Part(extent) = answer else {
+        let Ok(extent) = split_numbers(&wire, PAYLOAD, i, &mut buffer) else {
             return Ok(false);
         };
         let notification = first(&buffer, extent.length);

@@ -1,6 +1,6 @@
 // What the control point answers to a call, as the programs print it after the call.
-use crate::{Octets, first};
-use service::control::{Outcome, Reply};
+use crate::Octets;
+use service::control::Reply;
 use std::fmt;
 
 // The octets of a reply after their names, or the number of its refusal.
@@ -12,22 +12,21 @@ impl fmt::Display for Answer {
     fn fmt<W: fmt::Write>(&self, f: &mut fmt::Formatter<W>) -> fmt::Result {
         let reply = self.0;
         match reply.outcome {
-            Outcome::Done => {
+            Ok(()) => {
                 // the response to a write is 80, the op code and the result, and after a start of
                 // spin down the target speeds: the client has to confirm it; there is a status only
                 // if the write succeeded, or a flywheel speed has led a run on
                 let mut mark = ':';
                 for (name, sent) in [("response", reply.response), ("status", reply.status)] {
-                    if sent.count > 0 {
-                        let octets = first(&sent.octets, usize::from(sent.count));
-                        write!(f, "{mark} {name}{}", Octets(octets))?;
+                    if !sent.octets().is_empty() {
+                        write!(f, "{mark} {name}{}", Octets(sent.octets()))?;
                         mark = ',';
                     }
                 }
                 Ok(())
             }
             // 10, 17, 18, 19, 20 or 21
-            Outcome::Refused(refusal) => write!(f, ": refused {}", refusal.number()),
+            Err(refusal) => write!(f, ": refused {}", refusal.number()),
         }
     }
 }

@@ -5,7 +5,6 @@ pub mod answer;
 
 ghost use Rattle.std.specs.Prelude.{◌≡◌, take};
 
-use service::control::machine::Who;
 use std::fmt;
 use std::fmt::Write;
 
@@ -37,13 +36,13 @@ impl fmt::Display for Ascii<'_> {
 
 // Who holds control: nobody, or a client by its number.
 #[derive(Clone, Copy)]
-pub struct Holder(pub Who);
+pub struct Holder(pub Option<u8>);
 
 impl fmt::Display for Holder {
     fn fmt<W: fmt::Write>(&self, f: &mut fmt::Formatter<W>) -> fmt::Result {
         match self.0 {
-            Who::Nobody => write!(f, "nobody"),
-            Who::Client(client) => write!(f, "client {client}"),
+            None => write!(f, "nobody"),
+            Some(client) => write!(f, "client {client}"),
         }
     }
 }

@@ -1,18 +1,19 @@
 // What is printed of a collection: the answer to an opening and to a notification, and the whole state.
 use crate::printing::Refused;
 use record::record::Record;
-use service::collector::{Collected, Collection, Opening, Told};
+use record::refusal::Refusal;
+use service::collector::{Collected, Collection, Told};
 use std::fmt;
 
 // The answer to an opening.
 #[derive(Clone, Copy)]
-pub(crate) struct Begun(pub(crate) Opening);
+pub(crate) struct Begun(pub(crate) Result<(), Refusal>);
 
 impl fmt::Display for Begun {
     fn fmt<W: fmt::Write>(&self, f: &mut fmt::Formatter<W>) -> fmt::Result {
         match self.0 {
-            Opening::Opened => write!(f, "opened"),
-            Opening::Refused(refusal) => write!(f, "{}", Refused(refusal)),
+            Ok(()) => write!(f, "opened"),
+            Err(refusal) => write!(f, "{}", Refused(refusal)),
         }
     }
 }

@@ -3,11 +3,12 @@ use crate::printing::Refused;
 use output::Octets;
 use record::feature::Feature;
 use record::octets::{s16_at, u8_at, u16_at};
+use record::refusal::Refusal;
 use service::control::counted::Counted;
-use service::control::machine::{Machine, Mode, Setup, Who};
+use service::control::machine::{Machine, Mode, Setup};
 use service::control::ranges::{HeartRateRange, Ranges, SignedRange, SpeedRange};
 use service::control::spin_down::{Run, TargetSpeeds};
-use service::control::{Console, Outcome, Reply};
+use service::control::{Console, Reply};
 use std::fmt;
 
 // The ranges in 27 octets: speed, inclination, resistance, power and heart rate, each its least value, its greatest and its increment.
@@ -65,13 +66,13 @@ impl fmt::Display for Padded {
 
 // Nobody, or the number of a client.
 #[derive(Clone, Copy)]
-struct Number(Who);
+struct Number(Option<u8>);
 
 impl fmt::Display for Number {
     fn fmt<W: fmt::Write>(&self, f: &mut fmt::Formatter<W>) -> fmt::Result {
         match self.0 {
-            Who::Nobody => write!(f, "nobody"),
-            Who::Client(client) => write!(f, "{client}"),
+            None => write!(f, "nobody"),
+            Some(client) => write!(f, "{client}"),
         }
     }
 }
@@ -171,13 +172,13 @@ impl fmt::Display for State<'_> {
 
 // Whether a call was done or refused.
 #[derive(Clone, Copy)]
-struct Said(Outcome);
+struct Said(Result<(), Refusal>);
 
 impl fmt::Display for Said {
     fn fmt<W: fmt::Write>(&self, f: &mut fmt::Formatter<W>) -> fmt::Result {
         match self.0 {
-            Outcome::Done => write!(f, "done"),
-            Outcome::Refused(refusal) => write!(f, "{}", Refused(refusal)),
+            Ok(()) => write!(f, "done"),
+            Err(refusal) => write!(f, "{}", Refused(refusal)),
         }
     }
 }

@@ -6,7 +6,8 @@ use record::octets::{s16_at, u8_at, u16_at};
 use record::record::{
     Climb, Energy, Force, Gain, Inclination, RampAngle, Record, Slope, StepRates, Stroke,
 };
-use record::split::{SplitAnswer, split};
+use record::refusal::Refusal;
+use record::split::{Extent, split};
 use std::{fmt, io};
 
 // What a lent octet holds until it is written, and the most octets that are lent.
@@ -117,15 +118,13 @@ fn record_in(s: &[u8]) -> Record {
 }
 
 #[derive(Clone, Copy)]
-struct Answer(SplitAnswer);
+struct Answer(Result<Extent, Refusal>);
 
 impl fmt::Display for Answer {
     fn fmt<W: fmt::Write>(&self, f: &mut fmt::Formatter<W>) -> fmt::Result {
         match self.0 {
-            SplitAnswer::Part(extent) => {
-                write!(f, "length={} parts={}", extent.length, extent.parts)
-            }
-            SplitAnswer::Refused(refusal) => write!(f, "{}", Refused(refusal)),
+            Ok(extent) => { write!(f, "length={} parts={}", extent.length, extent.parts) }
+            Err(refusal) => write!(f, "{}", Refused(refusal)),
         }
     }
 }

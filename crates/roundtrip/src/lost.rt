@@ -1,10 +1,11 @@
 // Three records of a cross trainer, each in three parts, some of which are lost: an open
 // collection mixes two records, while a fixed one refuses with 34.
-use crate::round::{BLANK, PAYLOAD, Stop, finish, opened, split};
+use crate::round::{BLANK, PAYLOAD, Stop, finish, opened};
 use output::first;
 use record::groups::listed;
 use record::layout::CROSS_TRAINER;
 use record::record::{Energy, Gain, Inclination, RampAngle, Record, Slope, StepRates};
+use record::split::split;
 use service::collector::{Collected, Collection, Told, collect};
 use std::io;
 

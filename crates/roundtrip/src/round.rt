@@ -6,9 +6,8 @@ use record::record::{
     Climb, Energy, Force, Gain, Inclination, RampAngle, Record, Slope, StepRates, Stroke,
 };
 use record::refusal::Refusal;
-use record::split;
-use record::split::{Extent, MOST_PARTS, SplitAnswer};
-use service::collector::{Collected, Collection, Opening, Told, collect, open};
+use record::split::{MOST_PARTS, split};
+use service::collector::{Collected, Collection, Told, collect, open};
 use std::io;
 
 // The most octets of a notification; 20 is the least payload that the splitter takes.
@@ -103,26 +102,11 @@ fn show_record(rt: &impl Print, record: Record) -> io::Result<()> {
     print!(rt; "{}", Ascii(first(&lines, length)))
 }
 
-// A part of a record, in the lent octets.
-pub(crate) fn split(
-    record: Record,
-    payload: usize,
-    part: usize,
-    out: &mut [u8],
-) -> Result<Extent, Refusal> {
-    match split::split(record, payload, part, out) {
-        SplitAnswer::Part(extent) => Ok(extent),
-        SplitAnswer::Refused(refusal) => Err(refusal),
-    }
-}
-
 // A collection that holds nothing.
 pub(crate) fn opened(kind: u8, told: Told) -> Result<Collection, Refusal> {
     let opened = open(kind, told);
-    match opened.answer {
-        Opening::Opened => Ok(opened.collection),
-        Opening::Refused(refusal) => Err(refusal),
-    }
+    opened.answer?;
+    Ok(opened.collection)
 }
 
 // Sends one part of a record, which here means printing it; returns the number of parts.

@@ -10,7 +10,7 @@ use output::Octets;
 use record::feature::Feature;
 use service::control::ranges::{HeartRateRange, Ranges, SignedRange, SpeedRange};
 use service::control::spin_down::TargetSpeeds;
-use service::control::{Console, Outcome};
+use service::control::Console;
 use std::io;
 
 // What this treadmill sends, and what can be set on it: no resistance and no heart rate.
@@ -147,7 +147,7 @@ fn main(rt: HostRuntime) -> io::Result<()> {
     println!(rt; "Feature value:{}", Octets(&octets))?;
     let reply = Console::open(&octets, RANGES, SPEEDS);
     match reply.outcome {
-        Outcome::Done => {
+        Ok(()) => {
             let mut session = Session {
                 rt,
                 console: reply.console,
@@ -158,6 +158,6 @@ fn main(rt: HostRuntime) -> io::Result<()> {
             drive(&mut session)?;
             hand_over(&mut session)
         }
-        Outcome::Refused(refusal) => println!(rt; "refused {}", refusal.number()),
+        Err(refusal) => println!(rt; "refused {}", refusal.number()),
     }
 }

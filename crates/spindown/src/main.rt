@@ -12,7 +12,7 @@ use output::Octets;
 use record::feature::Feature;
 use service::control::ranges::{HeartRateRange, Ranges, SignedRange, SpeedRange};
 use service::control::spin_down::TargetSpeeds;
-use service::control::{Console, Outcome};
+use service::control::Console;
 use std::io;
 
 // What this bike sends, and what can be set on it: spin down alone.
@@ -66,12 +66,12 @@ fn main(rt: HostRuntime) -> io::Result<()> {
     println!(rt; "Feature value:{}", Octets(&octets))?;
     let reply = Console::open(&octets, RANGES, SPEEDS);
     match reply.outcome {
-        Outcome::Done => {
+        Ok(()) => {
             let console = reply.console;
             let mut session = Session { rt, console };
             session.state("a machine is opened")?;
             calibrate(&mut session)
         }
-        Outcome::Refused(refusal) => println!(rt; "refused {}", refusal.number()),
+        Err(refusal) => println!(rt; "refused {}", refusal.number()),
     }
 }

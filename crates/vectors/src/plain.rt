@@ -1,6 +1,6 @@
 // Numbers and the Feature value from octets and back.
 use output::Octets;
-use record::feature::{Feature, FeatureAnswer};
+use record::feature::Feature;
 use record::octets::{s16_at, u24_at, unsigned};
 use std::io;
 
@@ -36,13 +36,13 @@ fn run_features(rt: &impl Print) -> io::Result<()> {
     for octets in FEATURES {
         print!(rt; "feature{}", Octets(octets))?;
         match Feature::from_octets(octets) {
-            FeatureAnswer::Feature(value) => {
+            Ok(value) => {
                 let Feature { features, targets } = value;
                 let back = value.to_octets();
                 print!(rt; " features={features} targets={targets}")?;
                 println!(rt; " and back{}", Octets(&back))?;
             }
-            FeatureAnswer::Refused(refusal) => println!(rt; " refused={}", refusal.number())?,
+            Err(refusal) => println!(rt; " refused={}", refusal.number())?,
         }
     }
     Ok(())

@@ -4,10 +4,10 @@ use crate::printing::{LENT, UNTOUCHED, is_untouched, unchanged, yes};
 use crate::samples::{Form, Values, put_number};
 use output::{Octets, first};
 use record::layout::{AVERAGE_SPEED, CADENCE, DISTANCE, PACE};
-use record::notification::{Part, PartAnswer, read};
+use record::notification::{Part, read};
 use record::numbers::numbers_of;
 use record::record::Record;
-use record::split::{Extent, SplitAnswer, split};
+use record::split::{Extent, split};
 use std::io;
 
 // Notifications of a kind, each with its words before it. "All other bits are reserved: written 0, ignored when read." "Octets after the last named
@@ -91,7 +91,7 @@ fn read_case(rt: &impl Print, words: &str, kind: u8, notification: &[u8]) -> io:
     let before = [7u32; 31];
     let mut held = before;
     match read(kind, notification, &mut held) {
-        PartAnswer::Part(part) => {
+        Ok(part) => {
             let form = Form {
                 kind,
                 groups: part.groups,
@@ -99,7 +99,7 @@ fn read_case(rt: &impl Print, words: &str, kind: u8, notification: &[u8]) -> io:
             };
             print_part(rt, part, form.with(&held))
         }
-        PartAnswer::Refused(refusal) => {
+        Err(refusal) => {
             let same = held == before;
             println!(rt; " refused={} held={}", refusal.number(), unchanged(same))
         }
@@ -134,13 +134,12 @@ fn split_case(
     print!(rt; "{words}: {form} payload={payload} part={part} room={room}")?;
     let mut buffer = [UNTOUCHED; LENT];
     match split(r, payload, part, &mut buffer[..room.min(LENT)]) {
-        SplitAnswer::Part(extent) => {
-            let Extent { length, parts } = extent;
+        Ok(Extent { length, parts }) => {
             let octets = Octets(first(&buffer, length));
             let past = unchanged(is_untouched(&buffer, length));
             println!(rt; " parts={parts} length={length}:{octets} past={past}")
         }
-        SplitAnswer::Refused(refusal) => {
+        Err(refusal) => {
             let lent = unchanged(is_untouched(&buffer, 0));
             println!(rt; " refused={} lent={lent}", refusal.number())
         }

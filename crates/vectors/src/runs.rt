@@ -3,11 +3,10 @@ use crate::printing::{LENT, UNTOUCHED};
 use crate::samples::{Form, Values};
 use output::{Octets, first};
 use record::groups::{BITS, has, listed};
-use record::notification::{Part, PartAnswer, read};
-use record::numbers::numbers_of;
+use record::notification::{Part, read};
 use record::record::Record;
 use record::refusal::Refusal;
-use record::split::{Extent, MOST_PARTS, SplitAnswer, split};
+use record::split::{Extent, MOST_PARTS, split};
 use std::io;
 
 // The kinds, and the cross trainer's two directions.
@@ -36,23 +35,13 @@ struct Run {
 // Splits off a part of a record, and reads it into the numbers held.
 fn run_part(r: Record, payload: usize, part: usize, held: &mut [u32; 31]) -> Result<Run, Refusal> {
     let mut octets = [UNTOUCHED; LENT];
-    let extent = match split(r, payload, part, &mut octets) {
-        SplitAnswer::Part(extent) => extent,
-        SplitAnswer::Refused(refusal) => return Err(refusal),
-    };
-    match read(r.kind, first(&octets, extent.length), held) {
-        PartAnswer::Part(read) => Ok(Run {
-            octets,
-            extent,
-            read,
-        }),
-        PartAnswer::Refused(refusal) => Err(refusal),
-    }
-}
-
-// Whether two records are equal, by their kinds, groups, directions and wire numbers.
-fn is_same(a: Record, b: Record) -> bool {
-    Form::from(a) == Form::from(b) && numbers_of(a) == numbers_of(b)
+    let extent = split(r, payload, part, &mut octets)?;
+    let read = read(r.kind, first(&octets, extent.length), held)?;
+    Ok(Run {
+        octets,
+        extent,
+        read,
+    })
 }
 
 // Runs the parts of a record up to the last, and compares the record with what they give.
@@ -76,7 +65,7 @@ fn run_record(rt: &impl Print, r: Record, payload: usize) -> io::Result<()> {
                 direction,
                 ..form
             };
-            let same = is_same(r, back.with(&held));
+            let same = r == back.with(&held);
             return println!(rt; "back={}", if same { "equal" } else { "different" });
         }
     }

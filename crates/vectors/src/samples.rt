@@ -1,7 +1,7 @@
 // The records that are run: which values their fields have.
 use record::groups::has;
-use record::layout::{Row, Width, row_count, row_of};
-use record::numbers::{numbers_of, record_of};
+use record::layout::{Row, Width, rows};
+use record::numbers::{Wire, numbers_of, record_of};
 use record::record::{
     Climb, Energy, Force, Gain, Inclination, RampAngle, Record, Slope, StepRates, Stroke,
 };
@@ -130,15 +130,20 @@ impl Form {
 
     // The record of this form with these wire numbers.
     pub(crate) fn with(self, numbers: &[u32; 31]) -> Record {
-        record_of(self.kind, self.groups, self.direction, numbers)
+        record_of(&Wire {
+            kind: self.kind,
+            groups: self.groups,
+            direction: self.direction,
+            numbers: *numbers,
+        })
     }
 
     // The record of this form, each present field at its value.
     pub(crate) fn sample(self, values: Values) -> Record {
         let mut numbers = [0u32; 31];
-        for row in (0..row_count(self.kind)).map(|i| row_of(self.kind, i)) {
-            if self.has(row) {
-                put_number(&mut numbers, row.1, values.number(row));
+        for row in rows(self.kind) {
+            if self.has(*row) {
+                put_number(&mut numbers, row.1, values.number(*row));
             }
         }
         self.with(&numbers)

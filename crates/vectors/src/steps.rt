@@ -3,10 +3,10 @@ use crate::printing::yes;
 use crate::samples::{Form, number_at};
 use output::{Octets, first};
 use record::formed::well_formed;
-use record::layout::{row_count, row_of};
+use record::layout::rows;
 use record::numbers::numbers_of;
 use record::record::Record;
-use service::collector::{Collected, Collection, Opening, Told, collect, open};
+use service::collector::{Collected, Collection, Told, collect, open};
 use std::fmt::Write;
 use std::{fmt, io};
 
@@ -19,8 +19,8 @@ pub(crate) fn opened(rt: &impl Print, words: &str, kind: u8, told: Told) -> io::
     }
     let opened = open(kind, told);
     match opened.answer {
-        Opening::Opened => println!(rt; " opened")?,
-        Opening::Refused(refusal) => println!(rt; " refused={}", refusal.number())?,
+        Ok(()) => println!(rt; " opened")?,
+        Err(refusal) => println!(rt; " refused={}", refusal.number())?,
     }
     Ok(opened.collection)
 }
@@ -33,8 +33,8 @@ impl fmt::Display for Numbers {
     fn fmt<W: fmt::Write>(&self, f: &mut fmt::Formatter<W>) -> fmt::Result {
         let form = Form::from(self.0);
         let numbers = numbers_of(self.0);
-        for row in (0..row_count(form.kind)).map(|i| row_of(form.kind, i)) {
-            if form.has(row) {
+        for row in rows(form.kind) {
+            if form.has(*row) {
                 write!(f, " {}", number_at(&numbers, row.1))?;
             }
         }
