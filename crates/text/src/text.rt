@@ -1,18 +1,18 @@
 // Writing text into a lent buffer. What lies past the buffer's end is left out but counted, so the same calls also measure a text.
 #![tactic(auto, using(crate::proofs::Writing::writes))]
 
-ghost use Rattle.std.specs.Prelude.{◌≡◌, ◌+◌, ◌%◌, [], ◌∷◌};
-ghost use Rattle.text.specs.Sheet.{Put};
-ghost use Rattle.text.specs.Text.{decimal, hex_digit, hex, line};
+ghost use Rattle.std.specs.Prelude.{◌≡◌, ◌≤◌, ◌+◌, ◌%◌, [], ◌∷◌};
+ghost use Rattle.text.specs.Text.{top, decimal, hex_digit, hex, line};
 
 // The octet that ends a line.
 pub const LF: u8 = 10;
 
-// A lent buffer, and the position of the next octet in it; the position saturates at the largest usize.
+// A lent buffer, and the position of the next octet in it; the position saturates at the largest usize. That it is a usize is a field, so that proofs see it.
 #[derive(Drop)]
 pub struct Sheet<'a> {
     pub out: &'a mut [u8],
     pub at: usize,
+    ghost within: { at ≤ top },
 }
 
 // The last digit of n.
@@ -34,6 +34,8 @@ fn hex_digit(n: u8) -> u8
 }
 
 impl Sheet<'_> {
+    ghost use Rattle.text.specs.Sheet.{Put};
+
     pub fn put_byte(&mut self, b: u8)
         ensures { Put self.old (b ∷ []) self.new }
     {
