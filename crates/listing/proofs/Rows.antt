@@ -7,7 +7,7 @@ use native.Mathlib.Numerals.{add-one}
 use native.Mathlib.Omega.{arith}
 use borrow.Author.Tests.{lt-ltb, le-ltb}
 use lib.ListN.{length, get_or, take}
-use lib.Seq.{take-suc, take_all}
+use lib.Seq.{take-suc}
 use Rattle.record.specs.declared.layout.Row.{Row}
 use Rattle.record.specs.declared.record.Record.{Record}
 use Rattle.record.specs.Layout.{layout}
@@ -16,8 +16,10 @@ use Rattle.record.specs.Record.{wire}
 use Rattle.record.specs.Octets as Octets
 use Rattle.listing.specs.Lines.{value, field_line, field_lines, head_lines, record_lines}
 use Rattle.text.specs.Names.{name}
-use Rattle.text.specs.Text.{decimal, integer, line, Wrote}
-use Rattle.text.proofs.Writing.{then}
+use Rattle.text.specs.declared.text.Sheet.{Sheet}
+use Rattle.text.specs.Sheet.{Put}
+use Rattle.text.specs.Text.{decimal, integer, line}
+use Rattle.text.proofs.Writing.{put_then}
 
 -- the text of sixteen bits: below 32,768, and from 32,768 on
 pub plain_text : (n : ℕ) → n < 32768 → integer (Octets.signed n) ≡ decimal n
@@ -43,19 +45,14 @@ module _ (set : ℕ) (v : List ℕ) where
   lines_append [] ss = refl
   lines_append (r ∷ rs) ss = rw (lines_append rs ss) (sym (append_assoc (field_line set v r) _ _))
 
-  -- one iteration of a loop over rows, and its end
-  pub next_row : (rs : List Row) (i : ℕ) (d r : Row) {o o' o'' : List ℕ} {at m k : ℕ} → r ≡ get_or rs i d → i < length rs → Wrote o at (field_lines set v (take i rs)) o' m
-      → Wrote o' m (field_line set v r) o'' k → Wrote o at (field_lines set v (take (i + 1) rs)) o'' k
+  -- one iteration of a loop over rows
+  pub next_row : (rs : List Row) (i : ℕ) (d r : Row) {s s' s'' : Sheet} → r ≡ get_or rs i d → i < length rs → Put s (field_lines set v (take i rs)) s'
+      → Put s' (field_line set v r) s'' → Put s (field_lines set v (take (i + 1) rs)) s''
   next_row rs i d r e h p q =
-      rw (add-one, take-suc rs i d h, ← e, lines_append (take i rs) (r ∷ []), append-nil (field_line set v r)) (then p q)
-
-  pub all_rows : (rs : List Row) (i : ℕ) {o o' : List ℕ} {at m : ℕ} → length rs ≤ i → Wrote o at (field_lines set v (take i rs)) o' m
-      → Wrote o at (field_lines set v rs) o' m
-  all_rows rs i h p = rw (take_all i rs h) at p
+      rw (add-one, take-suc rs i d h, ← e, lines_append (take i rs) (r ∷ []), append-nil (field_line set v r)) (put_then p q)
 
 -- the head of a record, then its fields
-pub whole_record : (number : ℕ) (r : Record) {v o o' o'' : List ℕ} {at m k : ℕ} → v ≡ wire r
-    → Wrote o at (head_lines number r.kind r.groups r.direction) o' m
-    → Wrote o' m (field_lines (optional r.groups + 1) v (layout r.kind)) o'' k → Wrote o at (record_lines number r) o'' k
+pub whole_record : (number : ℕ) (r : Record) {v : List ℕ} {s s' s'' : Sheet} → v ≡ wire r → Put s (head_lines number r.kind r.groups r.direction) s'
+    → Put s' (field_lines (optional r.groups + 1) v (layout r.kind)) s'' → Put s (record_lines number r) s''
 unfolding record_lines
-whole_record number r e p q = then p (rw e at q)
+whole_record number r e p q = put_then p (rw e at q)

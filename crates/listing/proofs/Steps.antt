@@ -9,11 +9,12 @@ use lib.ListN.{length, take, drop, get_or, length-drop}
 use lib.Seq.{drop-drop}
 use Rattle.record.specs.Groups.{known}
 use Rattle.record.specs.Octets.{number}
-use Rattle.text.specs.Text.{Wrote, top}
-use Rattle.text.proofs.Writing.{nothing}
+use Rattle.text.specs.declared.text.Sheet.{Sheet}
+use Rattle.text.specs.Sheet.{Put}
+use Rattle.text.specs.Text.{top}
+use Rattle.text.proofs.Writing.{put_nothing}
 use Rattle.listing.specs.declared.walk.Listing.{Listing}
 use Rattle.listing.specs.declared.walk.Walk.{Walk}
-use Rattle.listing.specs.declared.walk.Stepped.{Stepped}
 use Rattle.listing.specs.Lines.{refused_line, longest}
 use Rattle.listing.specs.Listing.{begins, lines_of, state_after, first}
 use Rattle.listing.specs.Steps.{ends, goes_on, at_kind, at_beginning, at_notification, step, Took}
@@ -68,15 +69,13 @@ module _ (w : Walk) (s : List ℕ) where
   behind_kind e h = rw (e, ne_eqb w.position 0 h)
 
 -- a step with no lines that ends
-pub stopped : (w : Walk) {o : List ℕ} {at : ℕ} {r : Stepped} → length o ≤ top → at ≤ top → (r.next ≡ at) × (r.walk ≡ (ends w []).walk)
-    → Took o at (ends w []) o r
-stopped w {o} {at} h k e = record { lines = rw e.0 (nothing o at h k); walk = e.1; room = omega arith }
+pub stopped : (w : Walk) (s : Sheet) {r : Walk} → length s.out.now ≤ top → r ≡ (ends w []).walk → Took s (ends w []) s r
+stopped w s h e = record { lines = put_nothing s h; walk = e; room = omega arith }
 
 -- a step with no lines that goes on after the kind
-pub begun : (kind : ℕ) {o : List ℕ} {at : ℕ} {l : Listing} → length o ≤ top → at ≤ top → l ≡ begins kind
-    → Took o at (goes_on [] (begins kind) 1) o (record { next = at; walk = record { listing = l; position = 1; ended = false } })
-begun kind {o} {at} h k e =
-    record { lines = nothing o at h k; walk = λ i. record { listing = e i; position = 1; ended = false }; room = omega arith }
+pub begun : (kind : ℕ) (s : Sheet) {l : Listing} → length s.out.now ≤ top → l ≡ begins kind
+    → Took s (goes_on [] (begins kind) 1) s (record { listing = l; position = 1; ended = false })
+begun kind s h e = record { lines = put_nothing s h; walk = λ i. record { listing = e i; position = 1; ended = false }; room = omega arith }
 
 -- the octets of the notification at a position, as the code takes them
 abbrev octets_at : List ℕ → ℕ → ℕ → List ℕ
@@ -94,12 +93,11 @@ module _ (w : Walk) (s : List ℕ) (size : ℕ) (e : size ≡ number 2 (drop w.p
   pub breaks : length s - w.position < 2 + size → at_notification w (drop w.position s) ≡ ends w (refused_line 37)
   breaks g = cut_short w (drop w.position s) some (omega (arith, length-drop w.position s))
 
-  pub moves : {o o' : List ℕ} {at next : ℕ} {l : Listing} → 2 + size ≤ length s - w.position
-      → Wrote o at (lines_of w.listing (octets_at s w.position size)) o' next
+  pub moves : {t t' : Sheet} {l : Listing} → 2 + size ≤ length s - w.position
+      → Put t (lines_of w.listing (octets_at s w.position size)) t'
       → l ≡ state_after w.listing (octets_at s w.position size)
       → length (lines_of w.listing (octets_at s w.position size)) ≤ longest
-      → Took o at (at_notification w (drop w.position s)) o'
-      (record { next = next; walk = record { listing = l; position = w.position + 2 + size; ended = false } })
+      → Took t (at_notification w (drop w.position s)) t' (record { listing = l; position = w.position + 2 + size; ended = false })
   moves g q n k =
       let p : w.position + 2 + size ≡ w.position + (2 + number 2 (drop w.position s)) = omega arith in
       rw (one_more w (drop w.position s) some (omega (arith, length-drop w.position s)), taken)

@@ -2,10 +2,10 @@
 use Rattle.std.specs.Prelude.{ℕ, zero, suc, ◌+◌, ◌≤◌, ◌≡◌, true, false, cond, List, [], ◌∷◌, ◌++◌, eqb, ltb, length, drop}
 use Rattle.record.specs.Groups.{known}
 use Rattle.record.specs.Octets.{number}
-use Rattle.text.specs.Text.{Wrote}
+use Rattle.text.specs.declared.text.Sheet.{Sheet}
+use Rattle.text.specs.Sheet.{Put}
 use Rattle.listing.specs.declared.walk.Listing.{Listing}
 use Rattle.listing.specs.declared.walk.Walk.{Walk}
-use Rattle.listing.specs.declared.walk.Stepped.{Stepped}
 use Rattle.listing.specs.Lines.{refused_line, longest}
 use Rattle.listing.specs.Listing.{begins, lines_of, state_after, first}
 
@@ -54,8 +54,8 @@ unfoldable pub steps : ℕ → Walk → List ℕ → List ℕ
 steps zero w capture = []
 steps (suc n) w capture = (step w capture).lines ++ steps n (step w capture).walk capture
 
--- a step was taken: its lines were written at a position of a buffer, the reply has the walk after it, and the lines are not longer than `longest`
-pub record Took (out : List ℕ) (at : ℕ) (s : Step) (out' : List ℕ) (r : Stepped) : Type 0 where
-  pub lines : Wrote out at s.lines out' r.next
-  pub walk : r.walk ≡ s.walk
-  pub room : length s.lines ≤ longest
+-- a step was taken: its lines were put on a sheet, the reply is the walk after it, and the lines are not longer than `longest`
+pub record Took (s : Sheet) (t : Step) (s' : Sheet) (w : Walk) : Type 0 where
+  pub lines : Put s t.lines s'
+  pub walk : w ≡ t.walk
+  pub room : length t.lines ≤ longest

@@ -1,10 +1,13 @@
 // The lines of a record and of a refusal.
-ghost use Rattle.std.specs.Prelude.{◌≡◌, ◌≤◌, ◌%◌, ◌^◌, length, get_or};
+#![tactic(auto, using(text::proofs::Writing::writes))]
+
+ghost use Rattle.std.specs.Prelude.{◌≤◌, ◌%◌, ◌^◌, length};
 ghost use Rattle.record.specs.Layout.{layout};
 ghost use Rattle.record.specs.Octets.{signed};
 ghost use Rattle.record.specs.Refusal.{number_of};
 ghost use Rattle.listing.specs.Lines.{value, field_line, field_lines, head_lines, record_lines, refused_line, head_room, fields_room, longest};
-ghost use Rattle.text.specs.Text.{Wrote, integer};
+ghost use Rattle.text.specs.Sheet.{Put};
+ghost use Rattle.text.specs.Text.{integer};
 
 use record::groups::has;
 use record::layout::{Row, Width, row_count, row_of};
@@ -12,7 +15,7 @@ use record::numbers::numbers_of;
 use record::record::Record;
 use record::refusal::Refusal;
 use text::names::{DIRECTION, GROUPS, KIND, RECORD, REFUSED, put_name};
-use text::text::{LF, put_byte, put_decimal, put_line};
+use text::text::{LF, Sheet};
 
 // Room for the lines of one notification: a record or a refusal never takes more.
 pub const LONGEST_LINES: usize = 1024;
@@ -21,94 +24,77 @@ pub const LONGEST_LINES: usize = 1024;
 const MINUS: u8 = 45;
 
 // Writes the low sixteen bits of a number as a signed number.
-fn put_wire(out: &mut [u8], at: usize, n: u32) -> usize
-    ensures { Wrote out.old at (integer (signed (n % 2 ^ 16))) out.new result }
+fn put_wire(sheet: &mut Sheet, n: u32)
+    ensures { Put sheet.old (integer (signed (n % 2 ^ 16))) sheet.new }
 {
     let w = n % 65536;
     if w < 32768 {
-        return put_decimal(out, at, w);
+        return sheet.put_decimal(w);
     }
-    let next = put_byte(out, at, MINUS);
-    put_decimal(out, next, 65536 - w)
+    sheet.put_byte(MINUS);
+    sheet.put_decimal(65536 - w);
 }
 
-fn put_value(out: &mut [u8], at: usize, width: Width, n: u32) -> usize
-    ensures { Wrote out.old at (value width n) out.new result }
+fn put_value(sheet: &mut Sheet, width: Width, n: u32)
+    ensures { Put sheet.old (value width n) sheet.new }
 {
     match width {
-        Width::U8 => put_decimal(out, at, n),
-        Width::U16 => put_decimal(out, at, n),
-        Width::U24 => put_decimal(out, at, n),
-        Width::S16 => put_wire(out, at, n),
-    }
-}
-
-// The number of a field; 0 if there is no such field.
-fn number_at(numbers: &[u32], field: usize) -> u32
-    ensures { result ≡ get_or numbers.now field 0 }
-{
-    if field < numbers.len() {
-        numbers[field]
-    } else {
-        0
+        Width::U8 | Width::U16 | Width::U24 => sheet.put_decimal(n),
+        Width::S16 => put_wire(sheet, n),
     }
 }
 
 // The line of a row, if its group is in the set.
-fn put_row(out: &mut [u8], at: usize, set: u32, row: Row, numbers: &[u32]) -> usize
-    ensures { Wrote out.old at (field_line set numbers.now row) out.new result }
+fn put_row(sheet: &mut Sheet, set: u32, row: Row, numbers: &[u32])
+    ensures { Put sheet.old (field_line set numbers.now row) sheet.new }
 {
-    let bit = row.0;
-    if has(set, bit) {
+    if has(set, row.0) {
         let field = row.1 as usize;
-        let width = row.2;
-        let k = put_name(out, at, field);
-        let e = put_value(out, k, width, number_at(numbers, field));
-        return put_byte(out, e, LF);
+        put_name(sheet, field);
+        put_value(sheet, row.2, numbers.get(field).copied().unwrap_or(0));
+        sheet.put_byte(LF);
     }
-    at
 }
 
 // The lines of a kind's fields whose groups are in the set, in wire order.
-fn put_fields(out: &mut [u8], at: usize, kind: u8, set: u32, numbers: &[u32]) -> usize
-    ensures wrote { Wrote out.old at (field_lines set numbers.now (layout kind)) out.new result }
+fn put_fields(sheet: &mut Sheet, kind: u8, set: u32, numbers: &[u32])
+    ensures wrote { Put sheet.old (field_lines set numbers.now (layout kind)) sheet.new }
     ensures kind_len_bound { length (field_lines set numbers.now (layout kind)) ≤ fields_room }
 {
     let n = row_count(kind);
-    let mut next = at;
     for i in 0..n {
-        next = put_row(out, next, set, row_of(kind, i), numbers);
+        put_row(sheet, set, row_of(kind, i), numbers);
     }
-    next
 }
 
 // A record's number, kind, groups and direction.
-fn put_head(out: &mut [u8], at: usize, number: u32, kind: u8, groups: u32, direction: u8) -> usize
-    ensures wrote { Wrote out.old at (head_lines number kind groups direction) out.new result }
+#[tactic(auto, using(text::proofs::Writing::writes), unfolding(crate::specs::Lines::head_lines))]
+fn put_head(sheet: &mut Sheet, number: u32, kind: u8, groups: u32, direction: u8)
+    ensures wrote { Put sheet.old (head_lines number kind groups direction) sheet.new }
     ensures direction_len_bound { length (head_lines number kind groups direction) ≤ head_room }
 {
-    let a = put_line(out, at, &RECORD, number);
-    let b = put_line(out, a, &KIND, kind as u32);
-    let c = put_line(out, b, &GROUPS, groups);
-    put_line(out, c, &DIRECTION, direction as u32)
+    sheet.put_line(RECORD, number);
+    sheet.put_line(KIND, kind as u32);
+    sheet.put_line(GROUPS, groups);
+    sheet.put_line(DIRECTION, direction as u32);
 }
 
 // The lines of a record with its number among the records of a capture.
-pub fn put_record(out: &mut [u8], at: usize, number: u32, record: Record) -> usize
-    ensures wrote { Wrote out.old at (record_lines number «record») out.new result }
+pub fn put_record(sheet: &mut Sheet, number: u32, record: Record)
+    ensures wrote { Put sheet.old (record_lines number «record») sheet.new }
     ensures record_len_bound { length (record_lines number «record») ≤ longest }
 {
     let numbers = numbers_of(record);
     let groups = record.groups;
     let kind = record.kind;
-    let head = put_head(out, at, number, kind, groups, record.direction);
-    put_fields(out, head, kind, groups - groups % 2 + 1, &numbers)
+    put_head(sheet, number, kind, groups, record.direction);
+    put_fields(sheet, kind, groups - groups % 2 + 1, &numbers);
 }
 
 // The line of a refusal.
-pub fn put_refused(out: &mut [u8], at: usize, refusal: Refusal) -> usize
-    ensures wrote { Wrote out.old at (refused_line (number_of refusal)) out.new result }
+pub fn put_refused(sheet: &mut Sheet, refusal: Refusal)
+    ensures wrote { Put sheet.old (refused_line (number_of refusal)) sheet.new }
     ensures refusal_len_bound { length (refused_line (number_of refusal)) ≤ longest }
 {
-    put_line(out, at, &REFUSED, refusal.number() as u32)
+    sheet.put_line(REFUSED, refusal.number() as u32);
 }

@@ -9,7 +9,8 @@ ghost use Rattle.listing.specs.Listing.{listing, meant, answer_of, lent_after};
 ghost use Rattle.phone.specs.Host.{code, told, split_answer, split_lent};
 
 use crate::split::{handed_out, split_any};
-use listing::capture::{ListAnswer, list, list_length};
+use listing::capture::{list, list_length};
+use record::refusal::Refusal;
 
 // One part, counted from 0, of the record that a notification of the kind holds, split at a payload: its octets, its length and the number
 // of parts. Refusals, in this order: 11, 12, 30, 31, 32, 13, 15, 14. In C a slice is two arguments, a pointer and a length.
@@ -32,16 +33,16 @@ pub fn hordivasz_split(
 }
 
 // Stores the length of a listing through the pointer; on refusal 14 leaves what was there.
-fn listed(answer: ListAnswer, out_length: &mut usize) -> u32
+fn listed(answer: Result<usize, Refusal>, out_length: &mut usize) -> u32
     ensures value { result ≡ code (meant answer) }
     ensures out_length_after { out_length.new ≡ told (meant answer) (λ n. n) out_length.old }
 {
     match answer {
-        ListAnswer::Listed(n) => {
+        Ok(n) => {
             *out_length = n;
             0
         }
-        ListAnswer::Refused(why) => why.number() as u32,
+        Err(why) => why.number() as u32,
     }
 }
 
@@ -51,8 +52,7 @@ pub fn hordivasz_list(capture: &[u8], out: &mut [u8], out_length: &mut usize) ->
     ensures out_after { out.new ≡ lent_after (listing capture.now) out.old }
     ensures out_length_after { out_length.new ≡ told (answer_of (listing capture.now) (length out.old)) (λ n. n) out_length.old }
 {
-    let answer = list(capture, out);
-    listed(answer, out_length)
+    listed(list(capture, out), out_length)
 }
 
 // How many octets the listing of a capture has: the length of the buffer to lend for it.

@@ -1,14 +1,16 @@
--- At most one reply and one content of the lent buffer satisfy each public function's contract, as the prover reads it.
+-- At most one position and one content of the lent buffer satisfy each public function's contract, as the prover reads it.
 use Prim.Native.Nat.{ℕ}
 use mathlib.Core.Path.{◌≡◌, sym, ◌∙◌}
 use mathlib.Core.List.{List}
-use Rattle.record.proofs.Once.{Once, LeftOnce}
+use Rattle.record.proofs.Once.{LeftOnce}
+use Rattle.text.specs.Sheet.{Put}
 use Rattle.text.specs.Text.{Wrote}
-use Rattle.text.proofs.text.put_byte.Reads as put_byte
-use Rattle.text.proofs.text.put_bytes.Reads as put_bytes
-use Rattle.text.proofs.text.put_decimal.Reads as put_decimal
-use Rattle.text.proofs.text.put_line.Reads as put_line
-use Rattle.text.proofs.text.put_hex.Reads as put_hex
+use Rattle.text.specs.declared.text.Sheet.{Sheet}
+use Rattle.text.proofs.text.Sheet.put_byte.Reads as put_byte
+use Rattle.text.proofs.text.Sheet.put_bytes.Reads as put_bytes
+use Rattle.text.proofs.text.Sheet.put_decimal.Reads as put_decimal
+use Rattle.text.proofs.text.Sheet.put_line.Reads as put_line
+use Rattle.text.proofs.text.Sheet.put_hex.Reads as put_hex
 use Rattle.text.proofs.names.put_name.Reads as put_name
 use Rattle.text.proofs.names.put_field.Reads as put_field
 
@@ -17,20 +19,23 @@ pub wrote_once : (out : List ℕ) (at : ℕ) (text left left' : List ℕ) (next 
     (next ≡ next') × (left ≡ left')
 wrote_once out at text left left' next next' p q = (p.place ∙ sym q.place, p.octets ∙ sym q.octets)
 
+pub put_once : {s s' s'' : Sheet} {text : List ℕ} → Put s text s' → Put s text s'' → (s'.at ≡ s''.at) × (s'.out.now ≡ s''.out.now)
+put_once p q = wrote_once _ _ _ _ _ _ _ p.wrote q.wrote
+
 pub texts_once :
-    (Once put_byte.Post × LeftOnce put_byte.Post (λ κs s. s.0.now)) ×
-    (Once put_bytes.Post × LeftOnce put_bytes.Post (λ κs s. s.0.now)) ×
-    (Once put_decimal.Post × LeftOnce put_decimal.Post (λ κs s. s.0.now)) ×
-    (Once put_line.Post × LeftOnce put_line.Post (λ κs s. s.0.now)) ×
-    (Once put_hex.Post × LeftOnce put_hex.Post (λ κs s. s.0.now)) ×
-    (Once put_name.Post × LeftOnce put_name.Post (λ κs s. s.0.now)) ×
-    (Once put_field.Post × LeftOnce put_field.Post (λ κs s. s.0.now))
+    (LeftOnce put_byte.Post (λ κs s. s.0.now.at) × LeftOnce put_byte.Post (λ κs s. s.0.now.out.now)) ×
+    (LeftOnce put_bytes.Post (λ κs s. s.0.now.at) × LeftOnce put_bytes.Post (λ κs s. s.0.now.out.now)) ×
+    (LeftOnce put_decimal.Post (λ κs s. s.0.now.at) × LeftOnce put_decimal.Post (λ κs s. s.0.now.out.now)) ×
+    (LeftOnce put_line.Post (λ κs s. s.0.now.at) × LeftOnce put_line.Post (λ κs s. s.0.now.out.now)) ×
+    (LeftOnce put_hex.Post (λ κs s. s.0.now.at) × LeftOnce put_hex.Post (λ κs s. s.0.now.out.now)) ×
+    (LeftOnce put_name.Post (λ κs s. s.0.now.at) × LeftOnce put_name.Post (λ κs s. s.0.now.out.now)) ×
+    (LeftOnce put_field.Post (λ κs s. s.0.now.at) × LeftOnce put_field.Post (λ κs s. s.0.now.out.now))
 texts_once = (
-  (λ κs a x y s t p q. (wrote_once _ _ _ _ _ _ _ p q).0, λ κs a x y s t p q. (wrote_once _ _ _ _ _ _ _ p q).1),
-  (λ κs a x y s t p q. (wrote_once _ _ _ _ _ _ _ p q).0, λ κs a x y s t p q. (wrote_once _ _ _ _ _ _ _ p q).1),
-  (λ κs a x y s t p q. (wrote_once _ _ _ _ _ _ _ p q).0, λ κs a x y s t p q. (wrote_once _ _ _ _ _ _ _ p q).1),
-  (λ κs a x y s t p q. (wrote_once _ _ _ _ _ _ _ p q).0, λ κs a x y s t p q. (wrote_once _ _ _ _ _ _ _ p q).1),
-  (λ κs a x y s t p q. (wrote_once _ _ _ _ _ _ _ p q).0, λ κs a x y s t p q. (wrote_once _ _ _ _ _ _ _ p q).1),
-  (λ κs a x y s t p q. (wrote_once _ _ _ _ _ _ _ p q).0, λ κs a x y s t p q. (wrote_once _ _ _ _ _ _ _ p q).1),
-  (λ κs a x y s t p q. (wrote_once _ _ _ _ _ _ _ p q).0, λ κs a x y s t p q. (wrote_once _ _ _ _ _ _ _ p q).1),
+  (λ κs a x y s t p q. (put_once p q).0, λ κs a x y s t p q. (put_once p q).1),
+  (λ κs a x y s t p q. (put_once p q).0, λ κs a x y s t p q. (put_once p q).1),
+  (λ κs a x y s t p q. (put_once p q).0, λ κs a x y s t p q. (put_once p q).1),
+  (λ κs a x y s t p q. (put_once p q).0, λ κs a x y s t p q. (put_once p q).1),
+  (λ κs a x y s t p q. (put_once p q).0, λ κs a x y s t p q. (put_once p q).1),
+  (λ κs a x y s t p q. (put_once p q).0, λ κs a x y s t p q. (put_once p q).1),
+  (λ κs a x y s t p q. (put_once p q).0, λ κs a x y s t p q. (put_once p q).1),
 )

@@ -1,8 +1,7 @@
 -- "each present field .. under its name above with underscores. E prints `total_energy`, `energy_per_hour`, `energy_per_minute`; gain `positive_gain`,
 -- `negative_gain`." The key of each field, by its number.
-use Rattle.std.specs.Prelude.{ℕ, ◌-◌, List, [], ◌∷◌, ◌++◌, length, get_or, take, replicate}
+use Rattle.std.specs.Prelude.{ℕ, ◌-◌, List, [], ◌∷◌, length, get_or, take}
 use Prim.Native.String.{String}
-use Rattle.text.specs.declared.names.Key.{Key}
 use Rattle.text.specs.Text.{ascii}
 
 unfoldable pub names : List String
@@ -20,7 +19,3 @@ name field = ascii (get_or names field "")
 -- the name of a field: its key without the `=`
 unfoldable pub bare : ℕ → List ℕ
 bare field = take (length (name field) - 1) (name field)
-
--- a key as a row of the code's table: its length, and its octets padded with spaces to 21
-unfoldable pub padded : String → Key
-padded s = record { 0 = length (ascii s); 1 = ascii s ++ replicate (21 - length (ascii s)) 32 }

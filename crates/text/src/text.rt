@@ -1,34 +1,18 @@
-// Writing text into a lent buffer. What lies past the buffer's end is left out but counted, so the same functions also measure a text.
-ghost use Rattle.std.specs.Prelude.{◌≡◌, ◌+◌, ◌%◌, [], ◌∷◌};
-ghost use Rattle.text.specs.Text.{Wrote, decimal, hex_digit, hex, line};
+// Writing text into a lent buffer. What lies past the buffer's end is left out but counted, so the same calls also measure a text.
+#![tactic(auto, using(crate::proofs::Writing::writes))]
 
-// The largest usize, at which the position saturates.
-const TOP: usize = 18446744073709551615;
+ghost use Rattle.std.specs.Prelude.{◌≡◌, ◌≤◌, ◌+◌, ◌%◌, [], ◌∷◌};
+ghost use Rattle.text.specs.Text.{top, decimal, hex_digit, hex, line};
 
 // The octet that ends a line.
 pub const LF: u8 = 10;
 
-pub fn put_byte(out: &mut [u8], at: usize, b: u8) -> usize
-    ensures { Wrote out.old at (b ∷ []) out.new result }
-{
-    if at < out.len() {
-        out[at] = b;
-        return at + 1;
-    }
-    if at < TOP {
-        return at + 1;
-    }
-    at
-}
-
-pub fn put_bytes(out: &mut [u8], at: usize, text: &[u8]) -> usize
-    ensures { Wrote out.old at text.now out.new result }
-{
-    let mut next = at;
-    for i in 0..text.len() {
-        next = put_byte(out, next, text[i]);
-    }
-    next
+// A lent buffer, and the position of the next octet in it; the position saturates at the largest usize. That it is a usize is a field, so that proofs see it.
+#[derive(Drop)]
+pub struct Sheet<'a> {
+    pub out: &'a mut [u8],
+    pub at: usize,
+    ghost within: { at ≤ top },
 }
 
 // The last digit of n.
@@ -36,18 +20,6 @@ fn digit(n: u32) -> u8
     ensures { result ≡ 48 + n % 10 }
 {
     48 + (n % 10) as u8
-}
-
-// A number in decimal, with no leading zeros.
-#[tactic(auto, using(crate::proofs::Writing::one_digit))]
-pub fn put_decimal(out: &mut [u8], at: usize, n: u32) -> usize
-    ensures { Wrote out.old at (decimal n) out.new result }
-{
-    if n < 10 {
-        return put_byte(out, at, digit(n));
-    }
-    let next = put_decimal(out, at, n / 10);
-    put_byte(out, next, digit(n))
 }
 
 // A hexadecimal digit, in capitals.
@@ -61,19 +33,55 @@ fn hex_digit(n: u8) -> u8
     55 + d
 }
 
-// An octet as two hexadecimal digits.
-pub fn put_hex(out: &mut [u8], at: usize, b: u8) -> usize
-    ensures { Wrote out.old at (hex b) out.new result }
-{
-    let next = put_byte(out, at, hex_digit(b / 16));
-    put_byte(out, next, hex_digit(b))
-}
+impl Sheet<'_> {
+    ghost use Rattle.text.specs.Sheet.{Put};
 
-// A line: a key, a number, LF.
-pub fn put_line(out: &mut [u8], at: usize, key: &[u8], n: u32) -> usize
-    ensures { Wrote out.old at (line key.now (decimal n)) out.new result }
-{
-    let k = put_bytes(out, at, key);
-    let v = put_decimal(out, k, n);
-    put_byte(out, v, LF)
+    pub fn put_byte(&mut self, b: u8)
+        ensures { Put self.old (b ∷ []) self.new }
+    {
+        let at = self.at;
+        if at < self.out.len() {
+            self.out[at] = b;
+        }
+        self.at = at.saturating_add(1);
+    }
+
+    pub fn put_bytes(&mut self, text: &[u8])
+        ensures { Put self.old text.now self.new }
+    {
+        for b in text {
+            self.put_byte(*b);
+        }
+    }
+
+    // A number in decimal, with no leading zeros.
+    #[tactic(auto, using(crate::proofs::Writing::one_digit))]
+    pub fn put_decimal(&mut self, n: u32)
+        ensures { Put self.old (decimal n) self.new }
+    {
+        if n < 10 {
+            return self.put_byte(digit(n));
+        }
+        self.put_decimal(n / 10);
+        self.put_byte(digit(n));
+    }
+
+    // An octet as two hexadecimal digits.
+    #[tactic(auto, using(crate::proofs::Writing::writes), unfolding(crate::specs::Text::hex))]
+    pub fn put_hex(&mut self, b: u8)
+        ensures { Put self.old (hex b) self.new }
+    {
+        self.put_byte(hex_digit(b / 16));
+        self.put_byte(hex_digit(b));
+    }
+
+    // A line: a key, a number, LF.
+    #[tactic(auto, using(crate::proofs::Writing::writes), unfolding(crate::specs::Text::line))]
+    pub fn put_line(&mut self, key: &[u8], n: u32)
+        ensures { Put self.old (line key.now (decimal n)) self.new }
+    {
+        self.put_bytes(key);
+        self.put_decimal(n);
+        self.put_byte(LF);
+    }
 }

@@ -7,7 +7,7 @@ use Rattle.listing.proofs.walk.advance.Goals as goal
 pub returns-then-capture-position : goal.returns-then-capture-position
 returns-then-capture-position c = let s = c.args in
     rw (no_more s.walk (drop s.walk.position s.capture.now) (omega (arith, length-drop s.walk.position s.capture.now)))
-    (stopped s.walk (omega arith) (omega arith) c.end.ensures)
+    (stopped s.walk _ (omega arith) c.end.ensures)
 
 pub returns-then-left-size : goal.returns-then-left-size
 returns-then-left-size c = let s = c.args in
@@ -15,5 +15,5 @@ returns-then-left-size c = let s = c.args in
 
 pub returns : goal.returns
 returns c = let s = c.args in
-    let n = c.put_notification-noted.ensures in
+    let n = c.put_notification.ensures in
     moves s.walk s.capture.now _ c.u16_at-size.ensures c.if-capture-position.false c.if-left-size.false n.wrote n.listing_value n.notification_len_bound

@@ -17,4 +17,4 @@ returns-then-not-known c = rw (no_kind (c.args.walk) (c.args.capture.now) (omega
 
 pub returns : goal.returns
 returns c = rw (of_a_kind (c.args.walk) (c.args.capture.now) (omega arith) ((sym (c.is_known-known.ensures ∙ ap known (c.u8_at-kind.ensures ∙ number_one 0 c.args.capture.now))) ∙ not-false _ c.if-not-known.false-raw))
-    (begun _ (omega arith) (omega arith) (c.start-listing.ensures ∙ ap begins ((c.u8_at-kind.ensures ∙ number_one 0 c.args.capture.now))))
+    (begun _ _ (omega arith) (c.start.ensures ∙ ap begins ((c.u8_at-kind.ensures ∙ number_one 0 c.args.capture.now))))

@@ -5,7 +5,7 @@ use Rattle.listing.proofs.walk.step.Goals as goal
 
 pub returns-then-walk : goal.returns-then-walk
 returns-then-walk c = let s = c.args in
-    rw (over s.walk s.capture.now c.if-walk.true) (stopped s.walk (omega arith) (omega arith) c.end.ensures)
+    rw (over s.walk s.capture.now c.if-walk.true) (stopped s.walk _ (omega arith) c.end.ensures)
 
 pub returns-then-walk-eq0 : goal.returns-then-walk-eq0
 returns-then-walk-eq0 c = let s = c.args in
