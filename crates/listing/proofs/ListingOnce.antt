@@ -1,24 +1,14 @@
 -- At most one reply, state and lent content meet a contract of the listing.
-use mathlib.Core.Path.{◌≡◌, refl, sym, ◌∙◌}
-use Rattle.record.proofs.Once.{Once, LeftOnce, Variant, with_value, with_refusal, by_meaning}
-use Rattle.std.specs.Prelude.{ℕ, Result, Ok, Err}
-use Rattle.record.specs.declared.refusal.Refusal.{Refusal}
-use Rattle.listing.specs.Listing.{meant}
+use mathlib.Core.Path.{sym, ◌∙◌}
+use Rattle.record.proofs.Once.{Once, LeftOnce, meant_once}
 use Rattle.text.proofs.Once.{put_once}
 use Rattle.listing.proofs.capture.list.Reads as list
 use Rattle.listing.proofs.capture.list_length.Reads as list_length
 use Rattle.listing.proofs.walk.begin.Reads as begin
 use Rattle.listing.proofs.walk.step.Reads as step
 
-list_variant : (x : Result ℕ Refusal) → Variant Ok Err x
-list_variant (Ok n) = with_value n refl
-list_variant (Err r) = with_refusal r refl
-
-list_meant : (x y : Result ℕ Refusal) → meant x ≡ meant y → x ≡ y
-list_meant = by_meaning Ok Err meant list_variant (λ a. refl) (λ r. refl)
-
 pub list_once : Once list.Post × LeftOnce list.Post (λ κs s. s.1.0.now)
-list_once = (λ κs a x y s t p q. list_meant x y (p.0 ∙ sym q.0), λ κs a x y s t p q. p.1 ∙ sym q.1)
+list_once = (λ κs a x y s t p q. meant_once x y (p.0 ∙ sym q.0), λ κs a x y s t p q. p.1 ∙ sym q.1)
 
 pub length_once : Once list_length.Post
 length_once κs a x y s t p q = p ∙ sym q

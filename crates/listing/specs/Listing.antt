@@ -1,10 +1,8 @@
 -- The listing of a capture: "a kind octet, then for each notification a u16 length and its octets. It collects openly."
-use Rattle.std.specs.Prelude.{ℕ, zero, suc, ◌+◌, min, cond, List, [], ◌∷◌, ◌++◌, eqb, leb, ltb, length, take, drop, Result, Ok, Err}
+use Rattle.std.specs.Prelude.{ℕ, zero, suc, ◌+◌, min, cond, List, [], ◌∷◌, ◌++◌, eqb, leb, ltb, length, take, drop}
 use Rattle.record.specs.Answer.{Answer, given, provided, after}
 use Rattle.record.specs.Groups.{known}
 use Rattle.record.specs.Octets.{number, over}
-use Rattle.record.specs.declared.refusal.Refusal.{Refusal}
-use Rattle.record.specs.Refusal.{number_of}
 use Rattle.service.specs.declared.collector.Collection.{Collection}
 use Rattle.service.specs.declared.collector.Told.TheVariants.{Open}
 use Rattle.service.specs.Collector.{Said, waiting, handed, refused, empty, collect}
@@ -58,11 +56,6 @@ from_kind (kind ∷ s) = cond (known kind) (notifications (length s) (begins kin
 -- "36, then 11, are judged first and end the listing"
 unfoldable pub listing : List ℕ → List ℕ
 listing capture = cond (ltb 65536 (length capture)) (refused_line 36) (from_kind capture)
-
--- what each case of the answer means
-abbrev pub meant : Result ℕ Refusal → Answer ℕ
-meant (Ok n) = given n
-meant (Err x) = Answer.refused (number_of x)
 
 -- "The library call itself refuses only with 14, when its output can't hold the whole listing."
 unfoldable pub answer_of : List ℕ → ℕ → Answer ℕ

@@ -10,7 +10,7 @@ ghost use Rattle.text.specs.Sheet.{Put};
 ghost use Rattle.text.specs.Text.{integer};
 
 use record::groups::has;
-use record::layout::{Row, Width, row_count, row_of};
+use record::layout::{Row, Width, rows};
 use record::numbers::numbers_of;
 use record::record::Record;
 use record::refusal::Refusal;
@@ -61,9 +61,8 @@ fn put_fields(sheet: &mut Sheet, kind: u8, set: u32, numbers: &[u32])
     ensures wrote { Put sheet.old (field_lines set numbers.now (layout kind)) sheet.new }
     ensures kind_len_bound { length (field_lines set numbers.now (layout kind)) ≤ fields_room }
 {
-    let n = row_count(kind);
-    for i in 0..n {
-        put_row(sheet, set, row_of(kind, i), numbers);
+    for row in rows(kind) {
+        put_row(sheet, set, *row, numbers);
     }
 }
 

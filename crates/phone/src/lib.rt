@@ -4,8 +4,9 @@
 mod split;
 
 ghost use Rattle.std.specs.Prelude.{◌≡◌, min, length};
+ghost use Rattle.record.specs.Answer.{meant};
 ghost use Rattle.text.specs.Text.{top};
-ghost use Rattle.listing.specs.Listing.{listing, meant, answer_of, lent_after};
+ghost use Rattle.listing.specs.Listing.{listing, answer_of, lent_after};
 ghost use Rattle.phone.specs.Host.{code, told, split_answer, split_lent};
 
 use crate::split::{handed_out, split_any};

@@ -3,7 +3,7 @@ use Prim.Native.Nat.{ℕ, ◌<◌}
 use mathlib.Core.Path.{◌≡◌, refl, sym, ◌∙◌}
 use mathlib.Core.Bool.{Bool, true, false, ◌&&◌}
 use native.Mathlib.Omega.{arith}
-use borrow.Author.Tests.{leb-true, not-true, not-false}
+use borrow.Author.Tests.{leb-true}
 use lib.Dec.{leb}
 use Rattle.record.specs.Groups.{known}
 use Rattle.record.specs.Split.{payload_known}
@@ -29,26 +29,26 @@ returns-then-kind-gt255-clause-out_after c = rw (too_high c.args.kind c.if-kind-
 
 pub returns-then-not-is_known-clause-result_value : goal.returns-then-not-is_known-clause-result_value
 unfolding split_answer
-returns-then-not-is_known-clause-result_value c = let k : known c.args.kind ≡ false = sym c.is_known.ensures ∙ not-true _ c.if-not-is_known.true-raw in rw k refl
+returns-then-not-is_known-clause-result_value c = let k : known c.args.kind ≡ false = sym c.is_known.ensures ∙ c.if-not-is_known.true in rw k refl
 
 pub returns-then-not-is_known-clause-out_after : goal.returns-then-not-is_known-clause-out_after
 unfolding split_answer
-returns-then-not-is_known-clause-out_after c = let k : known c.args.kind ≡ false = sym c.is_known.ensures ∙ not-true _ c.if-not-is_known.true-raw in rw k refl
+returns-then-not-is_known-clause-out_after c = let k : known c.args.kind ≡ false = sym c.is_known.ensures ∙ c.if-not-is_known.true in rw k refl
 
 pub returns-then-not-is_payload-clause-result_value : goal.returns-then-not-is_payload-clause-result_value
 unfolding split_answer
 returns-then-not-is_payload-clause-result_value c = let a = c.args in
-    let p : payload_known a.payload ≡ false = sym c.is_payload.ensures ∙ not-true _ c.if-not-is_payload.true-raw in rw ((sym c.is_known.ensures ∙ not-false _ c.if-not-is_known.false-raw), p) refl
+    let p : payload_known a.payload ≡ false = sym c.is_payload.ensures ∙ c.if-not-is_payload.true in rw ((sym c.is_known.ensures ∙ c.if-not-is_known.false), p) refl
 
 pub returns-then-not-is_payload-clause-out_after : goal.returns-then-not-is_payload-clause-out_after
 unfolding split_answer
 returns-then-not-is_payload-clause-out_after c = let a = c.args in
-    let p : payload_known a.payload ≡ false = sym c.is_payload.ensures ∙ not-true _ c.if-not-is_payload.true-raw in rw ((sym c.is_known.ensures ∙ not-false _ c.if-not-is_known.false-raw), p) refl
+    let p : payload_known a.payload ≡ false = sym c.is_payload.ensures ∙ c.if-not-is_payload.true in rw ((sym c.is_known.ensures ∙ c.if-not-is_known.false), p) refl
 
 pub returns-clause-result_value : goal.returns-clause-result_value
 unfolding split_answer
-returns-clause-result_value c = rw ((sym c.is_known.ensures ∙ not-false _ c.if-not-is_known.false-raw), (sym c.is_payload.ensures ∙ not-false _ c.if-not-is_payload.false-raw)) c.split_read.ensures.result_value
+returns-clause-result_value c = rw ((sym c.is_known.ensures ∙ c.if-not-is_known.false), (sym c.is_payload.ensures ∙ c.if-not-is_payload.false)) c.split_read.ensures.result_value
 
 pub returns-clause-out_after : goal.returns-clause-out_after
 unfolding split_answer
-returns-clause-out_after c = rw ((sym c.is_known.ensures ∙ not-false _ c.if-not-is_known.false-raw), (sym c.is_payload.ensures ∙ not-false _ c.if-not-is_payload.false-raw)) c.split_read.ensures.out_after
+returns-clause-out_after c = rw ((sym c.is_known.ensures ∙ c.if-not-is_known.false), (sym c.is_payload.ensures ∙ c.if-not-is_payload.false)) c.split_read.ensures.out_after
