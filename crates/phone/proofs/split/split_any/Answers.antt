@@ -3,6 +3,7 @@ use Prim.Native.Nat.{ℕ, ◌<◌}
 use mathlib.Core.Path.{◌≡◌, refl, sym, ◌∙◌}
 use mathlib.Core.Bool.{Bool, true, false, ◌&&◌}
 use native.Mathlib.Omega.{arith}
+use Rattle.std.proofs.Common.{rules}
 use borrow.Author.Tests.{leb-true}
 use lib.Dec.{leb}
 use Rattle.record.specs.Groups.{known}
@@ -19,36 +20,46 @@ too_high kind h = at_most (leb 1 kind) (leb kind 6) refl
     at_most false false e = refl
     at_most true false e = refl
 
-pub returns-then-kind-gt255-clause-result_value : goal.returns-then-kind-gt255-clause-result_value
+pub returns-in_default-clause-result_value : goal.returns-in_default-clause-result_value
 unfolding split_answer
-returns-then-kind-gt255-clause-result_value c = rw (too_high c.args.kind c.if-kind-gt255.true) refl
+returns-in_default-clause-result_value c = let n : c.args.kind < 256 → ⊥ = c.in_default.ensures in rw (too_high c.args.kind (omega arith)) refl
 
-pub returns-then-kind-gt255-clause-out_after : goal.returns-then-kind-gt255-clause-out_after
+pub returns-in_default-clause-out_after : goal.returns-in_default-clause-out_after
 unfolding split_answer
-returns-then-kind-gt255-clause-out_after c = rw (too_high c.args.kind c.if-kind-gt255.true) refl
+returns-in_default-clause-out_after c = let n : c.args.kind < 256 → ⊥ = c.in_default.ensures in rw (too_high c.args.kind (omega arith)) refl
 
 pub returns-then-not-is_known-clause-result_value : goal.returns-then-not-is_known-clause-result_value
 unfolding split_answer
-returns-then-not-is_known-clause-result_value c = let k : known c.args.kind ≡ false = sym c.is_known.ensures ∙ c.if-not-is_known.true in rw k refl
+returns-then-not-is_known-clause-result_value c = let e : c.in-Ok.known ≡ c.args.kind = search rules in
+    let k : known c.args.kind ≡ false = rw e at (sym c.is_known.ensures ∙ c.if-not-is_known.true) in rw k refl
 
 pub returns-then-not-is_known-clause-out_after : goal.returns-then-not-is_known-clause-out_after
 unfolding split_answer
-returns-then-not-is_known-clause-out_after c = let k : known c.args.kind ≡ false = sym c.is_known.ensures ∙ c.if-not-is_known.true in rw k refl
+returns-then-not-is_known-clause-out_after c = let e : c.in-Ok.known ≡ c.args.kind = search rules in
+    let k : known c.args.kind ≡ false = rw e at (sym c.is_known.ensures ∙ c.if-not-is_known.true) in rw k refl
 
 pub returns-then-not-is_payload-clause-result_value : goal.returns-then-not-is_payload-clause-result_value
 unfolding split_answer
-returns-then-not-is_payload-clause-result_value c = let a = c.args in
-    let p : payload_known a.payload ≡ false = sym c.is_payload.ensures ∙ c.if-not-is_payload.true in rw ((sym c.is_known.ensures ∙ c.if-not-is_known.false), p) refl
+returns-then-not-is_payload-clause-result_value c = let e : c.in-Ok.known ≡ c.args.kind = search rules in
+    let k : known c.args.kind ≡ true = rw e at (sym c.is_known.ensures ∙ c.if-not-is_known.false) in
+    let p : payload_known c.args.payload ≡ false = sym c.is_payload.ensures ∙ c.if-not-is_payload.true in rw (k, p) refl
 
 pub returns-then-not-is_payload-clause-out_after : goal.returns-then-not-is_payload-clause-out_after
 unfolding split_answer
-returns-then-not-is_payload-clause-out_after c = let a = c.args in
-    let p : payload_known a.payload ≡ false = sym c.is_payload.ensures ∙ c.if-not-is_payload.true in rw ((sym c.is_known.ensures ∙ c.if-not-is_known.false), p) refl
+returns-then-not-is_payload-clause-out_after c = let e : c.in-Ok.known ≡ c.args.kind = search rules in
+    let k : known c.args.kind ≡ true = rw e at (sym c.is_known.ensures ∙ c.if-not-is_known.false) in
+    let p : payload_known c.args.payload ≡ false = sym c.is_payload.ensures ∙ c.if-not-is_payload.true in rw (k, p) refl
 
 pub returns-clause-result_value : goal.returns-clause-result_value
 unfolding split_answer
-returns-clause-result_value c = rw ((sym c.is_known.ensures ∙ c.if-not-is_known.false), (sym c.is_payload.ensures ∙ c.if-not-is_payload.false)) c.split_read.ensures.result_value
+returns-clause-result_value c = let e : c.in-Ok.known ≡ c.args.kind = search rules in
+    let k : known c.args.kind ≡ true = rw e at (sym c.is_known.ensures ∙ c.if-not-is_known.false) in
+    let p : payload_known c.args.payload ≡ true = sym c.is_payload.ensures ∙ c.if-not-is_payload.false in
+    rw (k, p) (rw e at c.split_read.ensures.result_value)
 
 pub returns-clause-out_after : goal.returns-clause-out_after
 unfolding split_answer
-returns-clause-out_after c = rw ((sym c.is_known.ensures ∙ c.if-not-is_known.false), (sym c.is_payload.ensures ∙ c.if-not-is_payload.false)) c.split_read.ensures.out_after
+returns-clause-out_after c = let e : c.in-Ok.known ≡ c.args.kind = search rules in
+    let k : known c.args.kind ≡ true = rw e at (sym c.is_known.ensures ∙ c.if-not-is_known.false) in
+    let p : payload_known c.args.payload ≡ true = sym c.is_payload.ensures ∙ c.if-not-is_payload.false in
+    rw (k, p) (rw e at c.split_read.ensures.out_after)
