@@ -7,8 +7,9 @@ use lib.ListN.{length, get_or, take}
 use lib.Seq.{take-suc, take_all}
 use Rattle.record.specs.declared.layout.Row.{Row}
 use Rattle.reference.specs.Tables.{last_bit, by_bit}
-use Rattle.text.specs.Text.{Wrote}
-use Rattle.text.proofs.Writing.{then}
+use Rattle.text.specs.declared.text.Sheet.{Sheet}
+use Rattle.text.specs.Sheet.{Put}
+use Rattle.text.proofs.Writing.{put_then}
 
 last_append : (b : ℕ) (rs : List Row) (r : Row) → last_bit b (rs ++ (r ∷ [])) ≡ r.0
 last_append b [] r = refl
@@ -24,12 +25,11 @@ module _ (line : ℕ → Row → List ℕ) where
   lines_append b (s ∷ rs) r = rw (lines_append s.0 rs r) (sym (append_assoc (line b s) _ _))
 
   -- an iteration of a loop over rows, and its end
-  pub next_row : (b : ℕ) (rs : List Row) (i k : ℕ) (d r : Row) {a x c : List ℕ} {at m n : ℕ} → r ≡ get_or rs i d → i < length rs → k ≡ last_bit b (take i rs) →
-      Wrote a at (by_bit line b (take i rs)) x m → Wrote x m (line k r) c n → Wrote a at (by_bit line b (take (i + 1) rs)) c n
-  next_row b rs i k d r e h f p q = rw (add-one, take-suc rs i d h, ← e, lines_append b (take i rs) r, ← f) (then p q)
+  pub next_row : (b : ℕ) (rs : List Row) (i k : ℕ) (d r : Row) {s s' s'' : Sheet} → r ≡ get_or rs i d → i < length rs → k ≡ last_bit b (take i rs) →
+      Put s (by_bit line b (take i rs)) s' → Put s' (line k r) s'' → Put s (by_bit line b (take (i + 1) rs)) s''
+  next_row b rs i k d r e h f p q = rw (add-one, take-suc rs i d h, ← e, lines_append b (take i rs) r, ← f) (put_then p q)
 
-  pub all_rows : (b : ℕ) (rs : List Row) (i : ℕ) {a x : List ℕ} {at m : ℕ} → length rs ≤ i → Wrote a at (by_bit line b (take i rs)) x m →
-      Wrote a at (by_bit line b rs) x m
+  pub all_rows : (b : ℕ) (rs : List Row) (i : ℕ) {s s' : Sheet} → length rs ≤ i → Put s (by_bit line b (take i rs)) s' → Put s (by_bit line b rs) s'
   all_rows b rs i h p = rw (take_all i rs h) at p
 
 -- the bit of the last row, at the end of such a loop

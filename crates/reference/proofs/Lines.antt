@@ -10,8 +10,9 @@ use Rattle.record.specs.declared.layout.Row.{Row}
 use Rattle.record.specs.Layout.{octets_of}
 use Rattle.record.specs.Groups.{size}
 use Rattle.reference.specs.Tables.{row_line, row_lines}
-use Rattle.text.specs.Text.{Wrote}
-use Rattle.text.proofs.Writing.{then}
+use Rattle.text.specs.declared.text.Sheet.{Sheet}
+use Rattle.text.specs.Sheet.{Put}
+use Rattle.text.proofs.Writing.{put_then}
 
 size_append : (rs : List Row) (r : Row) → size (rs ++ (r ∷ [])) ≡ size rs + octets_of r.2
 unfolding size
@@ -26,12 +27,12 @@ module _ (kind : ℕ) where
       let e : o + octets_of s.2 + size rs ≡ o + (octets_of s.2 + size rs) = omega arith in
       rw (lines_append (o + octets_of s.2) rs r, e) (sym (append_assoc (row_line kind o s) _ _))
 
-  -- an iteration of a loop over rows, and its end
-  pub next_line : (o : ℕ) (rs : List Row) (i k : ℕ) (d r : Row) {a b c : List ℕ} {at m n : ℕ} → r ≡ get_or rs i d → i < length rs → k ≡ o + size (take i rs) →
-      Wrote a at (row_lines kind o (take i rs)) b m → Wrote b m (row_line kind k r) c n → Wrote a at (row_lines kind o (take (i + 1) rs)) c n
-  next_line o rs i k d r e h f p q = rw (add-one, take-suc rs i d h, ← e, lines_append o (take i rs) r, ← f) (then p q)
+  -- an iteration of a loop over rows
+  pub next_line : (o : ℕ) (rs : List Row) (i k : ℕ) (d r : Row) {s s' s'' : Sheet} → r ≡ get_or rs i d → i < length rs → k ≡ o + size (take i rs) →
+      Put s (row_lines kind o (take i rs)) s' → Put s' (row_line kind k r) s'' → Put s (row_lines kind o (take (i + 1) rs)) s''
+  next_line o rs i k d r e h f p q = rw (add-one, take-suc rs i d h, ← e, lines_append o (take i rs) r, ← f) (put_then p q)
 
-  pub all_lines : (o : ℕ) (rs : List Row) (i : ℕ) {a b : List ℕ} {at m : ℕ} → length rs ≤ i → Wrote a at (row_lines kind o (take i rs)) b m → Wrote a at (row_lines kind o rs) b m
+  pub all_lines : (o : ℕ) (rs : List Row) (i : ℕ) {s s' : Sheet} → length rs ≤ i → Put s (row_lines kind o (take i rs)) s' → Put s (row_lines kind o rs) s'
   all_lines o rs i h p = rw (take_all i rs h) at p
 
 pub next_size : (o : ℕ) (rs : List Row) (i : ℕ) (d r : Row) → r ≡ get_or rs i d → i < length rs → o + size (take (i + 1) rs) ≡ o + size (take i rs) + octets_of r.2

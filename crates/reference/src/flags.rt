@@ -1,71 +1,66 @@
 // The flags of a kind: a line for each of its bits.
-ghost use Rattle.text.specs.Text.{Wrote};
+#![tactic(auto, using(text::proofs::Writing::writes))]
+
+ghost use Rattle.text.specs.Sheet.{Put};
 ghost use Rattle.reference.specs.Tables.{flag_line, other_flags, bit_lines, flags_table};
 
-use crate::words::put_group;
+use crate::words::group_name;
 use record::layout::{CROSS_TRAINER, Row, row_count, row_of};
-use text::text::{put_bytes, put_decimal};
+use text::text::Sheet;
 
 // The line of a group's bit, at the group's first row: the row before it has another bit.
-fn put_flag(out: &mut [u8], at: usize, kind: u8, before: u8, row: Row) -> usize
-    ensures { Wrote out.old at (flag_line kind before row) out.new result }
+#[tactic(auto, using(text::proofs::Writing::writes), unfolding(crate::specs::Tables::flag_line))]
+fn put_flag(sheet: &mut Sheet, kind: u8, before: u8, row: Row)
+    ensures { Put sheet.old (flag_line kind before row) sheet.new }
 {
     let bit = row.0;
     if bit == before {
-        return at;
+        return;
     }
-    let number = bit as u32;
-    let a = put_bytes(out, at, b"| ");
-    let b = put_decimal(out, a, number);
-    let c = put_bytes(out, b, b" | 1: ");
-    let d = put_group(out, c, kind, row);
-    put_bytes(out, d, b" present |\n")
+    sheet.put_bytes(b"| ");
+    sheet.put_decimal(bit as u32);
+    sheet.put_bytes(b" | 1: ");
+    sheet.put_bytes(group_name(kind, row));
+    sheet.put_bytes(b" present |\n");
 }
 
 // The bits after the last group's: the cross trainer has its direction there, and all others are reserved.
-fn put_others(out: &mut [u8], at: usize, kind: u8, last: u8) -> usize
-    ensures { Wrote out.old at (other_flags kind last) out.new result }
+#[tactic(auto, using(text::proofs::Writing::writes), unfolding(crate::specs::Tables::other_flags))]
+fn put_others(sheet: &mut Sheet, kind: u8, last: u8)
+    ensures { Put sheet.old (other_flags kind last) sheet.new }
 {
     if kind == CROSS_TRAINER {
-        return put_bytes(
-            out,
-            at,
+        return sheet.put_bytes(
             b"| 15 | direction: 0 forward, 1 backward |\n| 16 to 23 | reserved: written 0, ignored when read |\n",
         );
     }
     let next = last as u32 + 1;
-    let a = put_bytes(out, at, b"| ");
-    let b = put_decimal(out, a, next);
-    put_bytes(
-        out,
-        b,
-        b" to 15 | reserved: written 0, ignored when read |\n",
-    )
+    sheet.put_bytes(b"| ");
+    sheet.put_decimal(next);
+    sheet.put_bytes(b" to 15 | reserved: written 0, ignored when read |\n");
 }
 
 // The groups by their bits, and the bits after them.
-fn put_bits(out: &mut [u8], at: usize, kind: u8) -> usize
-    ensures { Wrote out.old at (bit_lines kind) out.new result }
+fn put_bits(sheet: &mut Sheet, kind: u8)
+    ensures { Put sheet.old (bit_lines kind) sheet.new }
 {
     let n = row_count(kind);
-    let mut next = at;
     let mut before: u8 = 0;
     for i in 0..n {
         let row = row_of(kind, i);
-        next = put_flag(out, next, kind, before, row);
+        put_flag(sheet, kind, before, row);
         before = row.0;
     }
-    put_others(out, next, kind, before)
+    put_others(sheet, kind, before);
 }
 
 // The table of the flags: a line for each bit, More Data first.
-pub fn put_flags(out: &mut [u8], at: usize, kind: u8) -> usize
-    ensures { Wrote out.old at (flags_table kind) out.new result }
+#[tactic(auto, using(text::proofs::Writing::writes), unfolding(crate::specs::Tables::flags_table))]
+pub fn put_flags(sheet: &mut Sheet, kind: u8)
+    ensures { Put sheet.old (flags_table kind) sheet.new }
 {
-    let next = put_bytes(
-        out,
-        at,
+    sheet.put_bytes(
         b"| bit | what it says |\n|---|---|\n| 0 | More Data: the main group is present exactly when this bit is 0 |\n",
     );
-    put_bits(out, next, kind)
+    put_bits(sheet, kind);
 }

@@ -1,112 +1,115 @@
 // The table of a kind: a line for each row of its layout, in the order of the wire.
+#![tactic(auto, using(text::proofs::Writing::writes))]
+
 ghost use Rattle.std.specs.Prelude.{◌≡◌};
-ghost use Rattle.text.specs.Text.{Wrote, ascii};
+ghost use Rattle.text.specs.Sheet.{Put};
+ghost use Rattle.text.specs.Text.{ascii};
 ghost use Rattle.reference.specs.Tables.{row_names, row_place, row_line, table, columns, kind_word, title, whole_length, sizes, page};
 
 use crate::flags::put_flags;
-use crate::words::{put_group, put_present, put_unit_cell, put_width};
+use crate::words::{group_name, present, put_unit_cell, put_width};
 use record::groups::{flags_length, groups_length, listed};
 use record::layout::{
     CROSS_TRAINER, INDOOR_BIKE, ROWER, Row, STAIR_CLIMBER, STEP_CLIMBER, TREADMILL, row_count,
     row_of, width_length,
 };
 use text::names::put_field;
-use text::text::{put_bytes, put_decimal};
+use text::text::Sheet;
 
 // The columns' names: the indoor bike's table has no units.
-fn put_columns(out: &mut [u8], at: usize, kind: u8) -> usize
-    ensures { Wrote out.old at (columns kind) out.new result }
+#[tactic(auto, using(text::proofs::Writing::writes), unfolding(crate::specs::Tables::columns))]
+fn put_columns(sheet: &mut Sheet, kind: u8)
+    ensures { Put sheet.old (columns kind) sheet.new }
 {
     if kind == INDOOR_BIKE {
-        return put_bytes(
-            out,
-            at,
+        return sheet.put_bytes(
             b"| present when | group | field | width | first octet |\n|---|---|---|---|---|\n",
         );
     }
-    put_bytes(
-        out,
-        at,
+    sheet.put_bytes(
         b"| present when | group | field | width | first octet | unit |\n|---|---|---|---|---|---|\n",
-    )
+    );
 }
 
 // The first cells of a row: when its group is present, group, field.
-fn put_names(out: &mut [u8], at: usize, kind: u8, row: Row) -> usize
-    ensures { Wrote out.old at (row_names kind row) out.new result }
+#[tactic(auto, using(text::proofs::Writing::writes), unfolding(crate::specs::Tables::row_names))]
+fn put_names(sheet: &mut Sheet, kind: u8, row: Row)
+    ensures { Put sheet.old (row_names kind row) sheet.new }
 {
-    let bit = row.0;
-    let number = bit as u32;
-    let field = row.1 as usize;
-    let a = put_bytes(out, at, b"| bit ");
-    let b = put_decimal(out, a, number);
-    let c = put_present(out, b, bit);
-    let d = put_group(out, c, kind, row);
-    let e = put_bytes(out, d, b" | ");
-    put_field(out, e, field)
+    sheet.put_bytes(b"| bit ");
+    sheet.put_decimal(row.0 as u32);
+    sheet.put_bytes(present(row.0));
+    sheet.put_bytes(group_name(kind, row));
+    sheet.put_bytes(b" | ");
+    put_field(sheet, row.1 as usize);
 }
 
 // The other cells: width, octet, unit.
-fn put_place(out: &mut [u8], at: usize, kind: u8, offset: u32, row: Row) -> usize
-    ensures { Wrote out.old at (row_place kind offset row) out.new result }
+#[tactic(auto, using(text::proofs::Writing::writes), unfolding(crate::specs::Tables::row_place))]
+fn put_place(sheet: &mut Sheet, kind: u8, offset: u32, row: Row)
+    ensures { Put sheet.old (row_place kind offset row) sheet.new }
 {
-    let field = row.1;
-    let width = row.2;
-    let a = put_bytes(out, at, b" | ");
-    let b = put_width(out, a, width);
-    let c = put_bytes(out, b, b" | ");
-    let d = put_decimal(out, c, offset);
-    put_unit_cell(out, d, kind, field)
+    sheet.put_bytes(b" | ");
+    put_width(sheet, row.2);
+    sheet.put_bytes(b" | ");
+    sheet.put_decimal(offset);
+    put_unit_cell(sheet, kind, row.1);
 }
 
 // The line of a row whose field begins at an octet.
-fn put_row(out: &mut [u8], at: usize, kind: u8, offset: u32, row: Row) -> usize
-    ensures { Wrote out.old at (row_line kind offset row) out.new result }
+#[tactic(auto, using(text::proofs::Writing::writes), unfolding(crate::specs::Tables::row_line))]
+fn put_row(sheet: &mut Sheet, kind: u8, offset: u32, row: Row)
+    ensures { Put sheet.old (row_line kind offset row) sheet.new }
 {
-    let next = put_names(out, at, kind, row);
-    put_place(out, next, kind, offset, row)
+    put_names(sheet, kind, row);
+    put_place(sheet, kind, offset, row);
 }
 
 // The lines of a kind's rows, in the order of the wire, each with the octet at which its field begins when all groups are present.
-pub fn put_table(out: &mut [u8], at: usize, kind: u8) -> usize
-    ensures { Wrote out.old at (table kind) out.new result }
+pub fn put_table(sheet: &mut Sheet, kind: u8)
+    ensures { Put sheet.old (table kind) sheet.new }
 {
     let n = row_count(kind);
-    let mut next = at;
     let mut offset = flags_length(kind) as u32;
     for i in 0..n {
         let row = row_of(kind, i);
-        let width = row.2;
-        next = put_row(out, next, kind, offset, row);
-        offset += width_length(width) as u32;
+        put_row(sheet, kind, offset, row);
+        offset += width_length(row.2) as u32;
     }
-    next
+}
+
+#[tactic(auto, using(text::proofs::Writing::writes), unfolding(crate::specs::Tables::kind_word))]
+pub(crate) fn kind_name(kind: u8) -> &'static [u8]
+    ensures { result.now ≡ ascii (kind_word kind) }
+{
+    match kind {
+        TREADMILL => b"treadmill",
+        CROSS_TRAINER => b"cross trainer",
+        STEP_CLIMBER => b"step climber",
+        STAIR_CLIMBER => b"stair climber",
+        ROWER => b"rower",
+        INDOOR_BIKE => b"indoor bike",
+        _ => b"",
+    }
 }
 
 // The name of a kind.
-pub fn put_kind(out: &mut [u8], at: usize, kind: u8) -> usize
-    ensures { Wrote out.old at (ascii (kind_word kind)) out.new result }
+pub fn put_kind(sheet: &mut Sheet, kind: u8)
+    ensures { Put sheet.old (ascii (kind_word kind)) sheet.new }
 {
-    match kind {
-        TREADMILL => put_bytes(out, at, b"treadmill"),
-        CROSS_TRAINER => put_bytes(out, at, b"cross trainer"),
-        STEP_CLIMBER => put_bytes(out, at, b"step climber"),
-        STAIR_CLIMBER => put_bytes(out, at, b"stair climber"),
-        ROWER => put_bytes(out, at, b"rower"),
-        INDOOR_BIKE => put_bytes(out, at, b"indoor bike"),
-        _ => at,
-    }
+    sheet.put_bytes(kind_name(kind));
 }
 
 // A page's heading.
-fn put_title(out: &mut [u8], at: usize, kind: u8) -> usize
-    ensures { Wrote out.old at (title kind) out.new result }
+#[tactic(auto, using(text::proofs::Writing::writes), unfolding(crate::specs::Tables::title))]
+fn put_title(sheet: &mut Sheet, kind: u8)
+    ensures { Put sheet.old (title kind) sheet.new }
 {
-    let a = put_bytes(out, at, b"# Kind ");
-    let b = put_decimal(out, a, kind as u32);
-    let c = put_bytes(out, b, b": ");
-    let d = put_kind(out, c, kind);
-    put_bytes(out, d, b"\n\n")
+    sheet.put_bytes(b"# Kind ");
+    sheet.put_decimal(kind as u32);
+    sheet.put_bytes(b": ");
+    put_kind(sheet, kind);
+    sheet.put_bytes(b"\n\n");
 }
 
 // The octets of a notification with all groups.
@@ -117,27 +120,26 @@ pub(crate) fn whole_length(kind: u8) -> usize
 }
 
 // The octets of the flags, and of a notification with all groups.
-fn put_sizes(out: &mut [u8], at: usize, kind: u8) -> usize
-    ensures { Wrote out.old at (sizes kind) out.new result }
+fn put_sizes(sheet: &mut Sheet, kind: u8)
+    ensures { Put sheet.old (sizes kind) sheet.new }
 {
-    let flags = flags_length(kind);
-    let all = whole_length(kind);
-    let a = put_bytes(out, at, b"Flags: ");
-    let b = put_decimal(out, a, flags as u32);
-    let c = put_bytes(out, b, b" octets. With all groups present: ");
-    let d = put_decimal(out, c, all as u32);
-    put_bytes(out, d, b" octets.\n\n")
+    sheet.put_bytes(b"Flags: ");
+    sheet.put_decimal(flags_length(kind) as u32);
+    sheet.put_bytes(b" octets. With all groups present: ");
+    sheet.put_decimal(whole_length(kind) as u32);
+    sheet.put_bytes(b" octets.\n\n");
 }
 
 // The page of a kind: its heading, its sizes, its flags and its fields.
-pub fn put_page(out: &mut [u8], at: usize, kind: u8) -> usize
-    ensures { Wrote out.old at (page kind) out.new result }
+#[tactic(auto, using(text::proofs::Writing::writes), unfolding(crate::specs::Tables::page))]
+pub fn put_page(sheet: &mut Sheet, kind: u8)
+    ensures { Put sheet.old (page kind) sheet.new }
 {
-    let a = put_title(out, at, kind);
-    let b = put_sizes(out, a, kind);
-    let c = put_bytes(out, b, b"## Flags\n\n");
-    let d = put_flags(out, c, kind);
-    let e = put_bytes(out, d, b"\n## Fields\n\n");
-    let f = put_columns(out, e, kind);
-    put_table(out, f, kind)
+    put_title(sheet, kind);
+    put_sizes(sheet, kind);
+    sheet.put_bytes(b"## Flags\n\n");
+    put_flags(sheet, kind);
+    sheet.put_bytes(b"\n## Fields\n\n");
+    put_columns(sheet, kind);
+    put_table(sheet, kind);
 }

