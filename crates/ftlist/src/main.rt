@@ -8,6 +8,7 @@ use listing::lines::LONGEST_LINES;
 use listing::walk::{LONGEST_CAPTURE, begin, step};
 use std::io;
 use std::io::{Read, Write};
+use text::text::Sheet;
 
 // One octet more than the longest capture that is listed, so that a longer one is noticed.
 const ROOM: usize = LONGEST_CAPTURE + 1;
@@ -38,14 +39,16 @@ fn read_input<R: Read>(source: &mut R, buffer: &mut [u8]) -> io::Result<usize>
 
 // Lists a capture, until the listing ends or a write fails.
 fn show_listing<W: Write>(target: &mut W, capture: &[u8]) -> io::Result<()> {
-    let mut space = [0u8; LONGEST_LINES];
-    let lines: &mut [u8] = &mut space;
     let mut walk = begin();
     while !walk.ended {
-        let stepped = step(lines, 0, walk, capture);
-        let length = stepped.next;
+        let mut lines = [0u8; LONGEST_LINES];
+        let mut sheet = Sheet {
+            out: &mut lines,
+            at: 0,
+        };
+        walk = step(&mut sheet, walk, capture);
+        let length = sheet.at;
         target.write_all(&lines[..length])?;
-        walk = stepped.walk;
     }
     Ok(())
 }

@@ -3,7 +3,7 @@
 
 ghost use Rattle.std.specs.Prelude.{◌≡◌, min, length};
 ghost use Rattle.text.specs.Text.{top};
-ghost use Rattle.listing.specs.Listing.{listing, meant, answer_of, lent_after};
+ghost use Rattle.listing.specs.Listing.{listing, answer_of, lent_after};
 ghost use Rattle.phone.specs.Host.{code, told, split_answer, split_lent};
 
 // One part, counted from 0, of the record that a notification of the kind holds, split at a payload: its octets, its length and the number

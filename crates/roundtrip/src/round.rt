@@ -9,6 +9,7 @@ use record::refusal::Refusal;
 use record::split::{MOST_PARTS, split};
 use service::collector::{Collected, Collection, Told, collect, open};
 use std::io;
+use text::text::Sheet;
 
 // The most octets of a notification; 20 is the least payload that the splitter takes.
 pub(crate) const PAYLOAD: usize = 20;
@@ -92,13 +93,23 @@ pub(crate) fn finish(rt: &impl Print, ran: Result<(), Stop>) -> io::Result<()> {
 
 fn show_refused(rt: &impl Print, refusal: Refusal) -> io::Result<()> {
     let mut lines = [0u8; LONGEST_LINES];
-    let length = put_refused(&mut lines, 0, refusal);
+    let mut sheet = Sheet {
+        out: &mut lines,
+        at: 0,
+    };
+    put_refused(&mut sheet, refusal);
+    let length = sheet.at;
     print!(rt; "{}", Ascii(first(&lines, length)))
 }
 
 fn show_record(rt: &impl Print, record: Record) -> io::Result<()> {
     let mut lines = [0u8; LONGEST_LINES];
-    let length = put_record(&mut lines, 0, 1, record);
+    let mut sheet = Sheet {
+        out: &mut lines,
+        at: 0,
+    };
+    put_record(&mut sheet, 1, record);
+    let length = sheet.at;
     print!(rt; "{}", Ascii(first(&lines, length)))
 }
 
