@@ -5,7 +5,7 @@ ghost use Rattle.text.specs.Sheet.{Put};
 ghost use Rattle.reference.specs.Tables.{flag_line, other_flags, bit_lines, flags_table};
 
 use crate::words::group_name;
-use record::layout::{CROSS_TRAINER, Row, row_count, row_of};
+use record::layout::{CROSS_TRAINER, Row, rows};
 use text::text::Sheet;
 
 // The line of a group's bit, at the group's first row: the row before it has another bit.
@@ -44,11 +44,9 @@ fn put_others(sheet: &mut Sheet, kind: u8, last: u8)
 fn put_bits(sheet: &mut Sheet, kind: u8)
     ensures { Put sheet.old (bit_lines kind) sheet.new }
 {
-    let n = row_count(kind);
     let mut before: u8 = 0;
-    for i in 0..n {
-        let row = row_of(kind, i);
-        put_flag(sheet, kind, before, row);
+    for row in rows(kind) {
+        put_flag(sheet, kind, before, *row);
         before = row.0;
     }
     put_others(sheet, kind, before);

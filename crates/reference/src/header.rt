@@ -10,7 +10,7 @@ ghost use Rattle.reference.specs.Header.{capital, capitals, prefix, mask_line, w
 use crate::tables::{kind_name, whole_length};
 use crate::words::{group_name, put_width, unit};
 use record::groups::{flags_length, listed};
-use record::layout::{CROSS_TRAINER, Row, row_count, row_of, width_length};
+use record::layout::{CROSS_TRAINER, Row, rows, width_length};
 use text::names::field_name;
 use text::text::Sheet;
 
@@ -99,11 +99,9 @@ fn put_row(sheet: &mut Sheet, kind: u8, before: u8, row: Row)
 fn put_rows(sheet: &mut Sheet, kind: u8)
     ensures { Put sheet.old (by_bit (row_macros kind) 0 (layout kind)) sheet.new }
 {
-    let n = row_count(kind);
     let mut before: u8 = 0;
-    for i in 0..n {
-        let row = row_of(kind, i);
-        put_row(sheet, kind, before, row);
+    for row in rows(kind) {
+        put_row(sheet, kind, before, *row);
         before = row.0;
     }
 }

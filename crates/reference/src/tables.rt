@@ -10,8 +10,8 @@ use crate::flags::put_flags;
 use crate::words::{group_name, present, put_unit_cell, put_width};
 use record::groups::{flags_length, groups_length, listed};
 use record::layout::{
-    CROSS_TRAINER, INDOOR_BIKE, ROWER, Row, STAIR_CLIMBER, STEP_CLIMBER, TREADMILL, row_count,
-    row_of, width_length,
+    CROSS_TRAINER, INDOOR_BIKE, ROWER, Row, STAIR_CLIMBER, STEP_CLIMBER, TREADMILL, rows,
+    width_length,
 };
 use text::names::put_field;
 use text::text::Sheet;
@@ -69,11 +69,9 @@ fn put_row(sheet: &mut Sheet, kind: u8, offset: u32, row: Row)
 pub fn put_table(sheet: &mut Sheet, kind: u8)
     ensures { Put sheet.old (table kind) sheet.new }
 {
-    let n = row_count(kind);
     let mut offset = flags_length(kind) as u32;
-    for i in 0..n {
-        let row = row_of(kind, i);
-        put_row(sheet, kind, offset, row);
+    for row in rows(kind) {
+        put_row(sheet, kind, offset, *row);
         offset += width_length(row.2) as u32;
     }
 }

@@ -1,17 +1,16 @@
--- `put_table`: the lines of the first i rows are written, and the next begins after their octets.
+-- `put_table`: the lines of the rows before this one are written, and the next begins after their octets.
 use Prim.Native.Nat.{◌+◌, ◌*◌, ◌≤◌}
 use mathlib.Core.Path.{◌≡◌}
-use lib.ListN.{length, take}
+use lib.ListN.{take}
 use Rattle.record.specs.Groups.{size, flags_octets}
 use Rattle.record.specs.Layout.{layout}
 use Rattle.reference.specs.Tables.{row_lines}
 use Rattle.text.specs.Sheet.{Put}
 use Rattle.reference.proofs.tables.put_table.Given as goal
 
-abbrev pub invariant-loop-i : goal.invariant-loop-i
-invariant-loop-i l = record {
-  all_rows : l.n ≡ length (layout l.kind);
-  wrote : Put l.initial.sheet (row_lines l.kind (flags_octets l.kind) (take l.i (layout l.kind))) l.sheet;
-  place : l.offset ≡ flags_octets l.kind + size (take l.i (layout l.kind));
-  small : l.offset ≤ 3 + 3 * l.i;
+abbrev pub invariant-loop-row : goal.invariant-loop-row
+invariant-loop-row l = record {
+  wrote : Put l.initial.sheet (row_lines l.kind (flags_octets l.kind) (take l.row-index (layout l.kind))) l.sheet;
+  place : l.offset ≡ flags_octets l.kind + size (take l.row-index (layout l.kind));
+  small : l.offset ≤ 3 + 3 * l.row-index;
 }
