@@ -13,7 +13,7 @@ use record::record::Record;
 use record::refusal::Refusal;
 
 // "A collection is open (a kind) or fixed (a kind and a set)." An enum and not an `Option<u32>`: `None` would have to be explained at each call.
-#[derive(Clone, Copy, PartialEq, Eq, Debug)]
+#[derive(Clone, Copy)]
 pub enum Told {
     Open,
     Fixed(u32),

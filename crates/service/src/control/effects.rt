@@ -59,12 +59,24 @@ fn done(machine: Machine, client: u8, act: Act, p: &[u8]) -> Machine
 {
     let x = u8_at(p, 0);
     match act {
-        Act::TakesControl => machine.held(Some(client)),
-        Act::Resets => machine.reset(),
-        Act::Starts => machine.going(Mode::Running),
-        Act::Halts => machine.going(halted(x)),
+        Act::TakesControl => Machine {
+            holder: Some(client),
+            ..machine
+        },
+        Act::Resets => Machine::fresh(machine.setup),
+        Act::Starts => Machine {
+            mode: Mode::Running,
+            ..machine
+        },
+        Act::Halts => Machine {
+            mode: halted(x),
+            ..machine
+        },
         Act::Stores(place) => machine.storing(place, p),
-        Act::SpinsDown => machine.spinning(spun(x)),
+        Act::SpinsDown => Machine {
+            run: spun(x),
+            ..machine
+        },
     }
 }
 
@@ -118,27 +130,22 @@ pub(crate) fn perform(machine: Machine, client: u8, op: u8, p: &[u8]) -> Perform
     failed(machine, op, res)
 }
 
-// The octets of a setting, from the index where an act stores it.
-fn part(settings: [u8; 49], count: u8, act: Act) -> Counted
-    requires { (count ≤ 10) × Room act count }
-    ensures { result ≡ boxed (Effects.part settings count act) }
-{
-    match act {
-        Act::Stores(place) => {
-            let start = place as usize;
-            Counted::of(&settings[start..start + count as usize])
-        }
-        _ => Counted::of(&[]),
-    }
-}
-
 // The setting that an op code stores, 0 at first; no octets for an op code that stores none.
-#[tactic(auto, using(crate::proofs::ControlLaws::Rule::size_most, crate::proofs::ControlLaws::Rule::room_for), unfolding(crate::specs::Control::Effects::setting))]
+#[tactic(auto, using(crate::proofs::ControlLaws::Rule::size_most, crate::proofs::ControlLaws::Rule::stored_within), unfolding(crate::specs::Control::Effects::setting))]
 pub(crate) fn setting(machine: Machine, op: u8) -> Counted
     ensures { result ≡ boxed (Effects.setting machine op) }
 {
     match op_code(op) {
-        Some(code) => part(machine.settings, code.parameter.length(), code.act),
-        None => Counted::of(&[]),
+        Some(
+            OpCode {
+                parameter,
+                act: Act::Stores(place),
+                ..
+            },
+        ) => {
+            let start = place as usize;
+            Counted::of(&machine.settings[start..start + parameter.length() as usize])
+        }
+        _ => Counted::of(&[]),
     }
 }

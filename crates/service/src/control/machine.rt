@@ -1,7 +1,7 @@
 // The machine that op codes act on: what it was opened with, who holds control, its mode, its settings, and its run of spin down.
 ghost use Rattle.std.specs.Prelude.{◌≡◌, ◌+◌, ◌≤◌, length};
 ghost use Rattle.record.specs.Octets.{placed};
-ghost use Rattle.service.specs.Control.Machine.{usable, held_by, cleared};
+ghost use Rattle.service.specs.Control.Machine.{usable};
 ghost use Rattle.service.specs.Control.Machine as MachineSpecs;
 
 use crate::control::ranges::Ranges;
@@ -50,7 +50,7 @@ pub(crate) fn without(who: Option<u8>, client: u8) -> Option<u8>
 }
 
 impl Machine {
-    // "At first it is stopped, .. nobody holds control, and every setting is zero."
+    // "At first it is stopped, .. nobody holds control, and every setting is zero."; a reset leaves this too.
     pub(crate) fn fresh(setup: Setup) -> Machine
         ensures { result ≡ MachineSpecs.fresh setup }
     {
@@ -63,35 +63,18 @@ impl Machine {
         }
     }
 
-    // Gives control to a client, or to nobody.
-    pub(crate) fn held(self, holder: Option<u8>) -> Machine
-        ensures { result ≡ held_by self holder }
-    {
-        Machine { holder, ..self }
-    }
-
-    // The run of spin down starts, goes on or is over.
-    pub(crate) fn spinning(self, run: Run) -> Machine
-        ensures { result ≡ MachineSpecs.spinning self run }
-    {
-        Machine { run, ..self }
-    }
-
     // A client leaves: "Disconnect frees control held by that client", and "disconnect of the holder .. ends a run".
     pub(crate) fn freed(self, client: u8) -> Machine
         ensures { result ≡ MachineSpecs.freed self client }
     {
         if self.holder == Some(client) {
-            return self.held(None).spinning(Run::Off);
+            return Machine {
+                holder: None,
+                run: Run::Off,
+                ..self
+            };
         }
         self
-    }
-
-    // The machine stops, runs or pauses.
-    pub(crate) fn going(self, mode: Mode) -> Machine
-        ensures { result ≡ MachineSpecs.going self mode }
-    {
-        Machine { mode, ..self }
     }
 
     // Stores a setting, from an index on.
@@ -102,12 +85,5 @@ impl Machine {
         let start = place as usize;
         self.settings[start..start + octets.len()].copy_from_slice(octets);
         self
-    }
-
-    // "01 zeroes every setting, stops and frees control", and "Reset .. ends a run".
-    pub(crate) fn reset(self) -> Machine
-        ensures { result ≡ cleared self }
-    {
-        Machine::fresh(self.setup)
     }
 }
