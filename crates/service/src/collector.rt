@@ -86,6 +86,7 @@ pub fn collect(collection: Collection, notification: &[u8]) -> Step
 }
 
 // The lowest group of a set, as a set.
+#[tactic(auto, using(record::proofs::Sets::one_bit, record::proofs::Sets::mod_stays, crate::proofs::Lowest::lowest_at, crate::proofs::Lowest::lowest_none))]
 fn lowest(set: u32) -> u32
     ensures { result ≡ Collector.lowest 15 set }
 {

@@ -105,7 +105,8 @@ fn failed(machine: Machine, op: u8, res: WriteResult) -> Performed
 
 // A write that succeeds.
 fn granted(machine: Machine, client: u8, op: u8, code: OpCode, p: &[u8]) -> Performed
-    requires { (length p.now ≤ 10) × Room code.act (length p.now) }
+    requires short { length p.now ≤ 10 }
+    requires room { Room code.act (length p.now) }
     ensures { result ≡ record { response = boxed (response_octets op WriteResult.Success ++ followed_by machine.setup.speeds code.act (number 1 p.now)); status = boxed (status_octets code.status p.now); machine = Effects.done machine client code.act p.now } }
 {
     let x = u8_at(p, 0);
@@ -117,17 +118,17 @@ fn granted(machine: Machine, client: u8, op: u8, code: OpCode, p: &[u8]) -> Perf
 }
 
 // What a client's write of an op code and its parameter does: "02 to 05 change nothing else".
+#[tactic(auto, using(crate::proofs::ControlLaws::Fits::granted_short, crate::proofs::ControlLaws::Fits::granted_room))]
 pub(crate) fn perform(machine: Machine, client: u8, op: u8, p: &[u8]) -> Performed
     ensures { result ≡ performs machine client op p.now }
 {
     let Some(code) = op_code(op) else {
         return failed(machine, op, WriteResult::NotSupported);
     };
-    let res = judged(machine, client, code, p);
-    if res == WriteResult::Success {
-        return granted(machine, client, op, code, p);
+    match judged(machine, client, code, p) {
+        WriteResult::Success => granted(machine, client, op, code, p),
+        res => failed(machine, op, res),
     }
-    failed(machine, op, res)
 }
 
 // The setting that an op code stores, 0 at first; no octets for an op code that stores none.

@@ -78,6 +78,7 @@ impl Machine {
     }
 
     // Stores a setting, from an index on.
+    #[tactic(auto, using(crate::proofs::ControlLaws::Boxes::copied))]
     pub(crate) fn storing(mut self, place: u8, octets: &[u8]) -> Machine
         requires { place + length octets.now ≤ 49 }
         ensures { result ≡ MachineSpecs.storing self (placed self.settings place octets.now) }
