@@ -8,6 +8,7 @@ use crate::control::ranges::Ranges;
 use crate::control::spin_down::{Run, TargetSpeeds};
 use record::feature::Feature;
 
+// What a machine does; 07 sets running, 08 stopped or paused.
 #[derive(Clone, Copy, PartialEq, Eq, Debug)]
 pub enum Mode {
     Stopped,
@@ -23,7 +24,8 @@ pub struct Setup {
     pub speeds: TargetSpeeds,
 }
 
-// What op codes act on. The holder of control is a client's number, or none. The sixteen settings follow one another in the order of op codes, in 49 octets.
+// What op codes act on. The holder of control is a client by its number, if anyone holds it. The sixteen settings follow one another in the order of op
+// codes, in 49 octets.
 #[derive(Clone, Copy)]
 pub struct Machine {
     pub setup: Setup,

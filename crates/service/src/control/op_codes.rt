@@ -45,7 +45,7 @@ pub enum Act {
     SpinsDown,
 }
 
-// What the table says about an op code; it needs a target bit, or none.
+// What the table says about an op code; `need` is the target bit that it needs, if any.
 #[derive(Clone, Copy)]
 pub struct OpCode {
     pub parameter: Parameter,
