@@ -2,6 +2,5 @@
 pub mod Rule
 pub mod Fits
 pub mod Boxes
-pub mod Widths
 pub mod Steps
 pub mod Answers

@@ -13,7 +13,7 @@ use record::record::Record;
 use record::refusal::Refusal;
 
 // "A collection is open (a kind) or fixed (a kind and a set)." An enum and not an `Option<u32>`: `None` would have to be explained at each call.
-#[derive(Clone, Copy, PartialEq, Eq, Debug)]
+#[derive(Clone, Copy)]
 pub enum Told {
     Open,
     Fixed(u32),
@@ -86,6 +86,7 @@ pub fn collect(collection: Collection, notification: &[u8]) -> Step
 }
 
 // The lowest group of a set, as a set.
+#[tactic(auto, using(record::proofs::Sets::one_bit, record::proofs::Sets::mod_stays, crate::proofs::Lowest::lowest_at, crate::proofs::Lowest::lowest_none))]
 fn lowest(set: u32) -> u32
     ensures { result ≡ Collector.lowest 15 set }
 {

@@ -55,27 +55,23 @@ const ABSENT: Client = Client {
     indicating: false,
 };
 
-fn refused(console: Console, why: Refusal) -> Reply
-    ensures { Says result (refuses console (number_of why)) }
+fn accepted(console: Console) -> Reply
+    ensures { Says result (accepts console) }
 {
-    let nothing = Counted::of(&[]);
     Reply {
-        outcome: Err(why),
-        response: nothing,
-        status: nothing,
+        outcome: Ok(()),
+        response: Counted::of(&[]),
+        status: Counted::of(&[]),
         console,
     }
 }
 
-fn accepted(console: Console) -> Reply
-    ensures { Says result (accepts console) }
+fn refused(console: Console, why: Refusal) -> Reply
+    ensures { Says result (refuses console (number_of why)) }
 {
-    let nothing = Counted::of(&[]);
     Reply {
-        outcome: Ok(()),
-        response: nothing,
-        status: nothing,
-        console,
+        outcome: Err(why),
+        ..accepted(console)
     }
 }
 
@@ -261,7 +257,10 @@ impl Console {
             response: Counted::of(&[]),
             status: fed.status,
             console: Console {
-                machine: machine.spinning(fed.run),
+                machine: Machine {
+                    run: fed.run,
+                    ..machine
+                },
                 ..self
             },
         }

@@ -73,6 +73,12 @@ granted_so m c x p e = from (judged_so m c x p) e
     from (for g) e = g
 
 -- the parameter of a write that succeeds has ten octets at most, and there is room for it among the settings
-pub granted_fits : (m : Machine) (c o : ℕ) (x : OpCode) (p : List ℕ) → judged m c x p ≡ Success → op_code o ≡ Some x →
-    (length p ≤ 10) × Room x.act (length p)
-granted_fits m c o x p s e = let g = granted_so m c x p (rw s refl) in (short m.setup.ranges x p g.suits o e, room_fit m.setup.ranges x p g.suits o e)
+module _ (m : Machine) (c o : ℕ) (x : OpCode) (p : List ℕ) (s : Success ≡ judged m c x p) (e : Some x ≡ op_code o) where
+  granted : Granted m c x p
+  granted = granted_so m c x p (rw (sym s) refl)
+
+  pub granted_short : length p ≤ 10
+  granted_short = short m.setup.ranges x p granted.suits o (sym e)
+
+  pub granted_room : Room x.act (length p)
+  granted_room = room_fit m.setup.ranges x p granted.suits o (sym e)

@@ -1,5 +1,5 @@
 -- A rule of the op codes is a test that is computed over the table; it then holds for every op code that is in it.
-use Prim.Native.Nat.{ℕ, ◌≤◌}
+use Prim.Native.Nat.{ℕ, ◌+◌, ◌≤◌}
 use mathlib.Core.Path.{◌≡◌, refl, sym}
 use mathlib.Core.Bool.{Bool, true}
 use mathlib.Core.List.{List, [], ◌∷◌}
@@ -9,6 +9,7 @@ use borrow.Author.Tests.{ne_eqb}
 use Rattle.record.proofs.Tests.{passed, failed, tested, leb_le, eqb_eq, and_l, and_r, all}
 use Rattle.service.specs.declared.control.op_codes.OpCode.{OpCode}
 use Rattle.std.specs.Prelude.{Some, None}
+use Rattle.service.specs.declared.control.op_codes.Act.TheVariants.{Stores}
 use Rattle.service.specs.Control.OpCodes.{Line, table, look_up, op_code}
 use Rattle.service.specs.Control.Parameters.{size}
 use Rattle.service.specs.Control.Effects.{end_of, Room}
@@ -67,3 +68,6 @@ inside o x = leb (end_of x.act (size x.parameter)) 49
 
 pub room_for : (o : ℕ) (x : OpCode) → op_code o ≡ Some x → Room x.act (size x.parameter)
 room_for o x e = leb_le (end_of x.act (size x.parameter)) 49 (table_rule inside refl o x e)
+
+pub stored_within : (o place : ℕ) (x : OpCode) → op_code o ≡ Some x → x.act ≡ Stores place → place + size x.parameter ≤ 49
+stored_within o place x e f = rw f at (room_for o x e)

@@ -15,7 +15,7 @@ use Rattle.service.specs.declared.control.spin_down.TargetSpeeds.{TargetSpeeds}
 use Rattle.service.specs.declared.control.spin_down.Run.{Run}
 use Rattle.service.specs.declared.control.spin_down.Run.TheVariants.{Off, Quiet}
 use Rattle.service.specs.declared.control.ranges.Ranges.{Ranges}
-use Rattle.service.specs.Control.Ranges.{Range, of_speed, of_signed, of_heart_rate, admits, is_range}
+use Rattle.service.specs.Control.Ranges.{Range, bounds, of_speed, of_signed, of_heart_rate, admits, is_range}
 use Rattle.service.specs.Control.OpCodes.{known, op_code}
 use Rattle.service.specs.Control.SpinDown.{on, said_at, run_at}
 use Rattle.service.specs.Control.Console.{closed}
@@ -92,17 +92,14 @@ courses = (refl, refl, refl, refl, refl)
 
 -- W-206, in numbers: 1,000 to 2,000 in steps of 10; −32,768 to 32,767 in steps of 65,535, both ends and nothing between; the greatest off the steps;
 -- −5 to 3 in steps of 2; an increment of 0
-abbrev span : ℤ → ℤ → ℕ → Range
-span a b i = record { least = a; greatest = b; increment = i }
-
 pub on_steps :
-    (map (admits (span (pos 1000) (pos 2000) 10)) (pos 990 ∷ pos 1000 ∷ pos 1005 ∷ pos 1010 ∷ pos 2000 ∷ pos 2010 ∷ []) ≡
+    (map (admits (bounds (pos 1000) (pos 2000) 10)) (pos 990 ∷ pos 1000 ∷ pos 1005 ∷ pos 1010 ∷ pos 2000 ∷ pos 2010 ∷ []) ≡
     false ∷ true ∷ false ∷ true ∷ true ∷ false ∷ []) ×
-    (map (admits (span (negsuc 32767) (pos 32767) 65535)) (negsuc 32767 ∷ negsuc 32766 ∷ negsuc 0 ∷ pos 0 ∷ pos 32766 ∷ pos 32767 ∷ []) ≡
+    (map (admits (bounds (negsuc 32767) (pos 32767) 65535)) (negsuc 32767 ∷ negsuc 32766 ∷ negsuc 0 ∷ pos 0 ∷ pos 32766 ∷ pos 32767 ∷ []) ≡
     true ∷ false ∷ false ∷ false ∷ false ∷ true ∷ []) ×
-    (map (admits (span (pos 0) (pos 25) 10)) (pos 0 ∷ pos 20 ∷ pos 25 ∷ pos 30 ∷ []) ≡ true ∷ true ∷ false ∷ false ∷ []) ×
-    (map (admits (span (negsuc 4) (pos 3) 2)) (negsuc 4 ∷ pos 0 ∷ pos 1 ∷ pos 2 ∷ pos 3 ∷ pos 4 ∷ []) ≡ true ∷ false ∷ true ∷ false ∷ true ∷ false ∷ []) ×
-    (map is_range (span (pos 0) (pos 25) 10 ∷ span (pos 0) (pos 25) 0 ∷ span (pos 25) (pos 25) 1 ∷ span (pos 26) (pos 25) 1 ∷ []) ≡
+    (map (admits (bounds (pos 0) (pos 25) 10)) (pos 0 ∷ pos 20 ∷ pos 25 ∷ pos 30 ∷ []) ≡ true ∷ true ∷ false ∷ false ∷ []) ×
+    (map (admits (bounds (negsuc 4) (pos 3) 2)) (negsuc 4 ∷ pos 0 ∷ pos 1 ∷ pos 2 ∷ pos 3 ∷ pos 4 ∷ []) ≡ true ∷ false ∷ true ∷ false ∷ true ∷ false ∷ []) ×
+    (map is_range (bounds (pos 0) (pos 25) 10 ∷ bounds (pos 0) (pos 25) 0 ∷ bounds (pos 25) (pos 25) 1 ∷ bounds (pos 26) (pos 25) 1 ∷ []) ≡
     true ∷ false ∷ true ∷ false ∷ [])
 on_steps = (refl, refl, refl, refl, refl)
 

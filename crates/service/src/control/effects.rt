@@ -59,12 +59,24 @@ fn done(machine: Machine, client: u8, act: Act, p: &[u8]) -> Machine
 {
     let x = u8_at(p, 0);
     match act {
-        Act::TakesControl => machine.held(Some(client)),
-        Act::Resets => machine.reset(),
-        Act::Starts => machine.going(Mode::Running),
-        Act::Halts => machine.going(halted(x)),
+        Act::TakesControl => Machine {
+            holder: Some(client),
+            ..machine
+        },
+        Act::Resets => Machine::fresh(machine.setup),
+        Act::Starts => Machine {
+            mode: Mode::Running,
+            ..machine
+        },
+        Act::Halts => Machine {
+            mode: halted(x),
+            ..machine
+        },
         Act::Stores(place) => machine.storing(place, p),
-        Act::SpinsDown => machine.spinning(spun(x)),
+        Act::SpinsDown => Machine {
+            run: spun(x),
+            ..machine
+        },
     }
 }
 
@@ -93,7 +105,8 @@ fn failed(machine: Machine, op: u8, res: WriteResult) -> Performed
 
 // A write that succeeds.
 fn granted(machine: Machine, client: u8, op: u8, code: OpCode, p: &[u8]) -> Performed
-    requires { (length p.now ≤ 10) × Room code.act (length p.now) }
+    requires short { length p.now ≤ 10 }
+    requires room { Room code.act (length p.now) }
     ensures { result ≡ record { response = boxed (response_octets op WriteResult.Success ++ followed_by machine.setup.speeds code.act (number 1 p.now)); status = boxed (status_octets code.status p.now); machine = Effects.done machine client code.act p.now } }
 {
     let x = u8_at(p, 0);
@@ -105,40 +118,35 @@ fn granted(machine: Machine, client: u8, op: u8, code: OpCode, p: &[u8]) -> Perf
 }
 
 // What a client's write of an op code and its parameter does: "02 to 05 change nothing else".
+#[tactic(auto, using(crate::proofs::ControlLaws::Fits::granted_short, crate::proofs::ControlLaws::Fits::granted_room))]
 pub(crate) fn perform(machine: Machine, client: u8, op: u8, p: &[u8]) -> Performed
     ensures { result ≡ performs machine client op p.now }
 {
     let Some(code) = op_code(op) else {
         return failed(machine, op, WriteResult::NotSupported);
     };
-    let res = judged(machine, client, code, p);
-    if res == WriteResult::Success {
-        return granted(machine, client, op, code, p);
-    }
-    failed(machine, op, res)
-}
-
-// The octets of a setting, from the index where an act stores it.
-fn part(settings: [u8; 49], count: u8, act: Act) -> Counted
-    requires { (count ≤ 10) × Room act count }
-    ensures { result ≡ boxed (Effects.part settings count act) }
-{
-    match act {
-        Act::Stores(place) => {
-            let start = place as usize;
-            Counted::of(&settings[start..start + count as usize])
-        }
-        _ => Counted::of(&[]),
+    match judged(machine, client, code, p) {
+        WriteResult::Success => granted(machine, client, op, code, p),
+        res => failed(machine, op, res),
     }
 }
 
 // The setting that an op code stores, 0 at first; no octets for an op code that stores none.
-#[tactic(auto, using(crate::proofs::ControlLaws::Rule::size_most, crate::proofs::ControlLaws::Rule::room_for), unfolding(crate::specs::Control::Effects::setting))]
+#[tactic(auto, using(crate::proofs::ControlLaws::Rule::size_most, crate::proofs::ControlLaws::Rule::stored_within), unfolding(crate::specs::Control::Effects::setting))]
 pub(crate) fn setting(machine: Machine, op: u8) -> Counted
     ensures { result ≡ boxed (Effects.setting machine op) }
 {
     match op_code(op) {
-        Some(code) => part(machine.settings, code.parameter.length(), code.act),
-        None => Counted::of(&[]),
+        Some(
+            OpCode {
+                parameter,
+                act: Act::Stores(place),
+                ..
+            },
+        ) => {
+            let start = place as usize;
+            Counted::of(&machine.settings[start..start + parameter.length() as usize])
+        }
+        _ => Counted::of(&[]),
     }
 }

@@ -1,13 +1,14 @@
 // The machine that op codes act on: what it was opened with, who holds control, its mode, its settings, and its run of spin down.
 ghost use Rattle.std.specs.Prelude.{◌≡◌, ◌+◌, ◌≤◌, length};
 ghost use Rattle.record.specs.Octets.{placed};
-ghost use Rattle.service.specs.Control.Machine.{usable, held_by, cleared};
+ghost use Rattle.service.specs.Control.Machine.{usable};
 ghost use Rattle.service.specs.Control.Machine as MachineSpecs;
 
 use crate::control::ranges::Ranges;
 use crate::control::spin_down::{Run, TargetSpeeds};
 use record::feature::Feature;
 
+// What a machine does; 07 sets running, 08 stopped or paused.
 #[derive(Clone, Copy, PartialEq, Eq, Debug)]
 pub enum Mode {
     Stopped,
@@ -23,7 +24,8 @@ pub struct Setup {
     pub speeds: TargetSpeeds,
 }
 
-// What op codes act on. The holder of control is a client's number, or none. The sixteen settings follow one another in the order of op codes, in 49 octets.
+// What op codes act on. The holder of control is a client by its number, if anyone holds it. The sixteen settings follow one another in the order of op
+// codes, in 49 octets.
 #[derive(Clone, Copy)]
 pub struct Machine {
     pub setup: Setup,
@@ -50,7 +52,7 @@ pub(crate) fn without(who: Option<u8>, client: u8) -> Option<u8>
 }
 
 impl Machine {
-    // "At first it is stopped, .. nobody holds control, and every setting is zero."
+    // "At first it is stopped, .. nobody holds control, and every setting is zero."; a reset leaves this too.
     pub(crate) fn fresh(setup: Setup) -> Machine
         ensures { result ≡ MachineSpecs.fresh setup }
     {
@@ -63,38 +65,22 @@ impl Machine {
         }
     }
 
-    // Gives control to a client, or to nobody.
-    pub(crate) fn held(self, holder: Option<u8>) -> Machine
-        ensures { result ≡ held_by self holder }
-    {
-        Machine { holder, ..self }
-    }
-
-    // The run of spin down starts, goes on or is over.
-    pub(crate) fn spinning(self, run: Run) -> Machine
-        ensures { result ≡ MachineSpecs.spinning self run }
-    {
-        Machine { run, ..self }
-    }
-
     // A client leaves: "Disconnect frees control held by that client", and "disconnect of the holder .. ends a run".
     pub(crate) fn freed(self, client: u8) -> Machine
         ensures { result ≡ MachineSpecs.freed self client }
     {
         if self.holder == Some(client) {
-            return self.held(None).spinning(Run::Off);
+            return Machine {
+                holder: None,
+                run: Run::Off,
+                ..self
+            };
         }
         self
     }
 
-    // The machine stops, runs or pauses.
-    pub(crate) fn going(self, mode: Mode) -> Machine
-        ensures { result ≡ MachineSpecs.going self mode }
-    {
-        Machine { mode, ..self }
-    }
-
     // Stores a setting, from an index on.
+    #[tactic(auto, using(crate::proofs::ControlLaws::Boxes::copied))]
     pub(crate) fn storing(mut self, place: u8, octets: &[u8]) -> Machine
         requires { place + length octets.now ≤ 49 }
         ensures { result ≡ MachineSpecs.storing self (placed self.settings place octets.now) }
@@ -102,12 +88,5 @@ impl Machine {
         let start = place as usize;
         self.settings[start..start + octets.len()].copy_from_slice(octets);
         self
-    }
-
-    // "01 zeroes every setting, stops and frees control", and "Reset .. ends a run".
-    pub(crate) fn reset(self) -> Machine
-        ensures { result ≡ cleared self }
-    {
-        Machine::fresh(self.setup)
     }
 }

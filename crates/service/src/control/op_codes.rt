@@ -14,7 +14,7 @@ use crate::control::parameters::Parameter::{
 use record::layout::Width;
 
 // What bounds a parameter: nothing, one of the ranges, or that it is 1 or 2.
-#[derive(Clone, Copy, PartialEq, Eq, Debug)]
+#[derive(Clone, Copy)]
 pub enum Bound {
     Free,
     Speed,
@@ -26,7 +26,7 @@ pub enum Bound {
 }
 
 // What success says: nothing, a status octet, or a status octet and the parameter.
-#[derive(Clone, Copy, PartialEq, Eq, Debug)]
+#[derive(Clone, Copy)]
 pub enum Status {
     Silent,
     Octet(u8),
@@ -45,7 +45,7 @@ pub enum Act {
     SpinsDown,
 }
 
-// What the table says about an op code; it needs a target bit, or none.
+// What the table says about an op code; `need` is the target bit that it needs, if any.
 #[derive(Clone, Copy)]
 pub struct OpCode {
     pub parameter: Parameter,

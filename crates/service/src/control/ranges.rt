@@ -7,7 +7,7 @@ ghost use Rattle.service.specs.Control.Ranges as RangesSpecs;
 use crate::control::op_codes::Bound;
 use record::octets::{s16_at, u8_at, u16_at};
 
-// Numbers of one type, whose increment may have another type.
+// A least and a greatest number, both allowed, and the increment, which may have another type.
 #[derive(Clone, Copy, Default)]
 pub struct Range<T, S> {
     pub least: T,
@@ -30,7 +30,7 @@ pub struct Ranges {
     pub heart_rate: HeartRateRange,
 }
 
-// A number of a range: u8, u16 or i16.
+// A number of a range, or its increment, as an i32: a u8, a u16 or an i16.
 pub(crate) trait Bounded: Copy {
     ghost value: { Self → ℤ };
 

@@ -1,8 +1,7 @@
--- `lowest` meets its contract. The invariant: no bit below is in the set. Assumes nothing.
-use Prim.Native.Nat.{◌%◌, ◌^◌, ◌≤◌}
+-- `lowest` meets its contract. The invariant: no bit below is in the set.
+use Prim.Native.Nat.{◌%◌, ◌^◌}
 use mathlib.Core.Path.{◌≡◌}
 use Rattle.service.proofs.collector.lowest.Given as goal
 
 abbrev pub invariant-loop-bit : goal.invariant-loop-bit
-invariant-loop-bit l =
-    (l.bit ≤ 15) × (l.set % 2 ^ l.bit ≡ 0)
+invariant-loop-bit l = l.set % 2 ^ l.bit ≡ 0
