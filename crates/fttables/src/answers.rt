@@ -5,7 +5,8 @@ use record::layout;
 use record::layout::{INDOOR_BIKE, Row, TREADMILL, row_count, row_of};
 use std::io;
 
-// The feature that a group belongs to, by the group's first field: source document 000, tables 4.5 to 4.10.
+// The feature that a group belongs to, by the group's first field: source document 000, tables 4.5
+// to 4.10.
 fn feature_of(field: u8) -> Option<u8> {
     match field {
         layout::AVERAGE_SPEED => Some(Feature::AVERAGE_SPEED),

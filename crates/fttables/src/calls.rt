@@ -9,13 +9,15 @@ use std::fmt;
 // More steps than any call has refusals.
 const STEPS: u8 = 9;
 
-// A call: the number of the refusal that it gives at a step, as long as it refuses; what follows its refusals in their order; and what a refusal leaves.
+// A call: the number of the refusal that it gives at a step, as long as it refuses; what follows
+// its refusals in their order; and what a refusal leaves.
 #[derive(Clone, Copy)]
 pub(crate) struct Call {
     pub(crate) name: &'static str,
     answer: fn(u8) -> Option<u8>,
     pub(crate) then: &'static str,
     pub(crate) left: &'static str,
+    // it can be asked at every step
     ghost answers: { IsAlwaysCallable answer },
 }
 

@@ -1,4 +1,5 @@
-// The calls of the control point, made step by step as in records.rt: a step gives the number of the refusal, if there is one; and the results of writes.
+// The calls of the control point, made step by step as in records.rt: a step gives the number of
+// the refusal, if there is one; and the results of writes.
 use crate::steps::mended;
 use output::first;
 use service::control::ranges::{HeartRateRange, Ranges, SignedRange, SpeedRange};
@@ -51,7 +52,8 @@ fn number_of(outcome: Outcome) -> Option<u8> {
     }
 }
 
-// Opens a machine, with the Feature value's length and the ranges put right in turn: the least speed is above the greatest at first.
+// Opens a machine, with the Feature value's length and the ranges put right in turn: the least
+// speed is above the greatest at first.
 pub(crate) fn opening(step: u8) -> Option<u8> {
     let speed = SpeedRange {
         least: mended(step, 2, 1, 0),
@@ -75,7 +77,8 @@ pub(crate) fn after(console: Console, octets: &[u8]) -> Console {
     console.write(0, octets).console.confirm(0).console
 }
 
-// A console with a response due to client 0; client 1 is connected with indications off, and no other is connected.
+// A console with a response due to client 0; client 1 is connected with indications off, and no
+// other is connected.
 fn awaiting() -> Console {
     let opened = Console::open(&[0; 8], RANGES, SPEEDS).console;
     let written = joined(opened, 0).write(0, &REQUEST_CONTROL).console;
@@ -109,7 +112,8 @@ pub(crate) fn confirming(step: u8) -> Option<u8> {
     number_of(awaiting().confirm(client).outcome)
 }
 
-// Writes by these clients in turn, with the octets, then the client's indications and then the awaited response put right.
+// Writes by these clients in turn, with the octets, then the client's indications and then the
+// awaited response put right.
 pub(crate) fn writing(step: u8) -> Option<u8> {
     let console = mended(step, 5, awaiting(), holding());
     let client = mended(step, 4, client_at(step), 0);
@@ -122,8 +126,8 @@ pub(crate) fn holding() -> Console {
     awaiting().confirm(0).console
 }
 
-// The result of a write in which the op code, the client, the length and the machine's state are put right in turn. Client 0 holds control, client 1 can write
-// too, and the machine runs at first.
+// The result of a write in which the op code, the client, the length and the machine's state are
+// put right in turn. Client 0 holds control, client 1 can write too, and the machine runs at first.
 pub(crate) fn resulting(step: u8) -> u8 {
     let stopped = holding().indicate(1, true).console;
     let console = mended(step, 4, after(stopped, &START), stopped);

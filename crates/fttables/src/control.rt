@@ -113,17 +113,27 @@ fn print_op_code(rt: &impl Print, op: u8, name: &str) -> io::Result<()> {
     }
 }
 
-pub(crate) fn print_control(rt: &impl Print) -> io::Result<()> {
+fn print_op_codes(rt: &impl Print) -> io::Result<()> {
     print!(rt;
-        "\n# Control point\n\n## Op codes\n\n| op code | name | parameter | octets | range | target bit it needs | status where it succeeds |\n|---|---|---|---|---|---|---|\n"
+        "\n## Op codes\n\n| op code | name | parameter | octets | range | target bit it needs | status where it succeeds |\n|---|---|---|---|---|---|---|\n"
     )?;
     for (op, name) in (0..).zip(NAMES) {
         print_op_code(rt, op, name)?;
     }
+    Ok(())
+}
+
+// The results come from a write in which less and less is wrong.
+fn print_results(rt: &impl Print) -> io::Result<()> {
     print!(rt; "\n## Results\n\n| result | given when |\n|---|---|\n")?;
-    // the results come from a write in which less and less is wrong
     for (step, when) in (0..).zip(RESULTS) {
         println!(rt; "| {:02X} | {when} |", resulting(step))?;
     }
     Ok(())
+}
+
+pub(crate) fn print_control(rt: &impl Print) -> io::Result<()> {
+    println!(rt; "\n# Control point")?;
+    print_op_codes(rt)?;
+    print_results(rt)
 }

@@ -1,4 +1,5 @@
-// Which targets a range admits, as the calls answer: in each line a machine is opened with a range, and the client that holds control writes a target.
+// Which targets a range admits, as the calls answer: in each line a machine is opened with a range,
+// and the client that holds control writes a target.
 use crate::clients::{RANGES, REQUEST_CONTROL, SPEEDS, after, joined};
 use record::feature::Feature;
 use service::control::ranges::{HeartRateRange, Ranges, SignedRange, SpeedRange};
@@ -50,7 +51,8 @@ const ALONE: HeartRateRange = HeartRateRange {
     increment: 20,
 };
 
-// The line of a range and a target: what a write of the octets gives to client 0, who holds control; or the refusal, if no machine is opened with these ranges.
+// The line of a range and a target: what a write of the octets gives to client 0, who holds
+// control; or the refusal, if no machine is opened with these ranges.
 fn print_line(
     rt: &impl Print,
     cells: impl fmt::Display + Drop,

@@ -21,7 +21,8 @@ pub(crate) fn least_parts(kind: u8) -> usize {
     cut.map_or(0, |sent| sent.parts)
 }
 
-// The line of each kind: its number, its name, the octets of its flags and of all groups, and its parts at the least payload.
+// The line of each kind: its number, its name, the octets of its flags and of all groups, and its
+// parts at the least payload.
 pub(crate) fn print_kinds(rt: &impl Print) -> io::Result<()> {
     print!(rt;
         "\n# All kinds\n\n## Kinds\n\n| kind | name | octets of flags | octets with all groups | parts at payload 20 |\n|---|---|---|---|---|\n"
@@ -38,15 +39,17 @@ pub(crate) fn print_kinds(rt: &impl Print) -> io::Result<()> {
     Ok(())
 }
 
-// The cell of a field and a kind: its bit, or `main`, and its width; empty if the kind has no such field.
+// The cell of a field and a kind: its bit, or `main`, and its width; empty if the kind has no such
+// field.
 fn print_cell(rt: &impl Print, kind: u8, field: u8) -> io::Result<()> {
     for i in 0..row_count(kind) {
         let Row(bit, of, width) = row_of(kind, i);
         let width = Written::Width(width);
-        if of == field && bit == 0 {
-            print!(rt; " main {width}")?;
-        } else if of == field {
-            print!(rt; " {bit} {width}")?;
+        if of == field {
+            match bit {
+                0 => print!(rt; " main {width}")?,
+                _ => print!(rt; " {bit} {width}")?,
+            }
         }
     }
     print!(rt; " |")

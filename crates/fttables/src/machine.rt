@@ -1,5 +1,5 @@
-// What each write does to the machine in each state, as the calls answer; what a success does; the parameters' units; and the ranges, with the targets that
-// they admit.
+// What each write does to the machine in each state, as the calls answer; what a success does; the
+// parameters' units; and the ranges, with the targets that they admit.
 use crate::clients::{START, SUCCESS, after, holding};
 use crate::increments::print_steps;
 use crate::written::Written;
@@ -17,8 +17,9 @@ const RESET: [u8; 1] = [0x01];
 // The lines of the states.
 const MODES: [Mode; 3] = [Mode::Stopped, Mode::Running, Mode::Paused];
 
-// "Success: 00 gives control; 01 zeroes every setting, stops and frees control; 07 sets running, 08 stopped (1) or paused (2); .. store the parameter octets."
-// Of document 02: "parameter 1 starts, 2 ignores".
+// "Success: 00 gives control; 01 zeroes every setting, stops and frees control; 07 sets running, 08
+// stopped (1) or paused (2); .. store the parameter octets." Of document 02: "parameter 1 starts, 2
+// ignores".
 const SUCCESSES: &str = "
 ## Successes
 
@@ -34,7 +35,8 @@ const SUCCESSES: &str = "
 | 13 02 | ends a run |
 ";
 
-// The units of the parameters, as source document 000 gives them in tables 4.15, 4.17 to 4.20 and 4.22.
+// The units of the parameters, as source document 000 gives them in tables 4.15, 4.17 to 4.20 and
+// 4.22.
 const UNITS: &str = "
 ## Units
 
@@ -60,10 +62,10 @@ const UNITS: &str = "
 | 14 | cadence | 1/minute | 0.5 |
 ";
 
-// "Ranges (least, greatest, both allowed) exist for speed u16, inclination s16, resistance s16, power s16, heart rate u8."
-// Of document 02: "Each range gets its increment, u16 (for heart rate u8)."
-// Each with the op code whose target is compared with it.
-const RANGES: [(&str, &str, &str, u8); 5] = [
+// "Ranges (least, greatest, both allowed) exist for speed u16, inclination s16, resistance s16,
+// power s16, heart rate u8." Of document 02: "Each range gets its increment, u16 (for heart rate
+// u8)." Each with the op code whose target is compared with it.
+const COMPARED: [(&str, &str, &str, u8); 5] = [
     ("speed", "u16", "u16", 0x02),
     ("inclination", "s16", "u16", 0x03),
     ("resistance", "s16", "u16", 0x04),
@@ -116,7 +118,7 @@ fn print_ranges(rt: &impl Print) -> io::Result<()> {
     print!(rt;
         "\n## Ranges\n\n| range | least and greatest | increment | op code | its parameter |\n|---|---|---|---|---|\n"
     )?;
-    for (range, ends, increment, op) in RANGES {
+    for (range, ends, increment, op) in COMPARED {
         print!(rt; "| {range} | {ends} | {increment} | {op:02X} | ")?;
         match op_code(op) {
             Lookup::Known(code) => println!(rt; "{} |", Written::Width(code.parameter.width(0)))?,

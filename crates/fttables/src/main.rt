@@ -1,4 +1,5 @@
-// Prints the tables of the reference in Markdown, from the tables that the proved code runs on and from what its calls answer.
+// Prints the tables of the reference in Markdown, from the tables that the proved code runs on and
+// from what its calls answer.
 #![tactic(auto)]
 
 mod answers;

@@ -97,7 +97,8 @@ impl fmt::Display for Carried {
     }
 }
 
-// The line of a part: its number, flags, octets and groups; for a cross trainer's part, also its flags when the direction is backward.
+// The line of a part: its number, flags, octets and groups; for a cross trainer's part, also its
+// flags when the direction is backward.
 fn print_part(rt: &impl Print, splitting: Splitting, number: usize) -> io::Result<()> {
     let Some(sent) = splitting.part(number) else {
         return Ok(());
@@ -132,7 +133,8 @@ pub(crate) fn print_parts(rt: &impl Print, kind: u8, payload: usize) -> io::Resu
     Ok(())
 }
 
-// A step of splitting: what remains, how long it would be in one part, and whether that fits; and the part that is sent.
+// A step of splitting: what remains, how long it would be in one part, and whether that fits; and
+// the part that is sent.
 fn print_step(rt: &impl Print, left: Splitting, number: usize, sent: Sent) -> io::Result<()> {
     let one = Splitting {
         payload: GREATEST_PAYLOAD,

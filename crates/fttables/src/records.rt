@@ -1,5 +1,6 @@
-// The calls on records, notifications and captures, made step by step: at step 0 everything is wrong that can be wrong at once, and each next step
-// puts right the first of what is still wrong. A step gives the number of the refusal, if there is one.
+// The calls on records, notifications and captures, made step by step: at step 0 everything is
+// wrong that can be wrong at once, and each next step puts right the first of what is still wrong.
+// A step gives the number of the refusal, if there is one.
 use crate::steps::{length_at, mended};
 use listing::capture::{ListAnswer, list};
 use output::first;
@@ -11,14 +12,16 @@ use record::split::{SplitAnswer, split_numbers};
 use service::collector::{Collected, Opening, Told, collect, open};
 use std::str;
 
-// Groups of an indoor bike, as a set and in the first octet of the flags. Bit 0 is no group: in the flags it is More Data.
+// Groups of an indoor bike, as a set and in the first octet of the flags. Bit 0 is no group: in the
+// flags it is More Data.
 const BIT_0: u8 = 1;
 
 const AVERAGE_SPEED: u8 = 2;
 
 const CADENCE: u8 = 4;
 
-// The octets of the longest notification that is tried, and of the longest capture: each is too long.
+// The octets of the longest notification that is tried, and of the longest capture: each is too
+// long.
 const NOTIFICATION: usize = 513;
 
 const CAPTURE: usize = 65537;
@@ -47,7 +50,8 @@ pub(crate) fn splitting(step: u8) -> Option<u8> {
     }
 }
 
-// Splits as C does, with kind, payload, the notification's length, its More Data, part and lent octets put right in turn.
+// Splits as C does, with kind, payload, the notification's length, its More Data, part and lent
+// octets put right in turn.
 pub(crate) fn splitting_from_c(step: u8) -> Option<u8> {
     let kind = mended(step, 1, 0, INDOOR_BIKE);
     let payload = mended(step, 2, 0, 20);
@@ -99,8 +103,8 @@ pub(crate) fn opening_collection(step: u8) -> Option<u8> {
     }
 }
 
-// Collects a notification of cadence, with the kind, its length and the told set put right in turn; the told set is another group, then one group
-// too many, then cadence.
+// Collects a notification of cadence, with the kind, its length and the told set put right in turn;
+// the told set is another group, then one group too many, then cadence.
 pub(crate) fn collecting(step: u8) -> Option<u8> {
     let kind = mended(step, 1, 0, INDOOR_BIKE);
     let complete = mended(step, 6, AVERAGE_SPEED + CADENCE, CADENCE);
@@ -122,7 +126,8 @@ pub(crate) fn listing(step: u8) -> Option<u8> {
     }
 }
 
-// The length of a capture: too long at first, then without the notification's octets, and then with them.
+// The length of a capture: too long at first, then without the notification's octets, and then with
+// them.
 fn capture_length(step: u8, notification: u16) -> usize {
     match step {
         0 => CAPTURE,
@@ -131,8 +136,9 @@ fn capture_length(step: u8, notification: u16) -> usize {
     }
 }
 
-// Lists a capture, with its length, kind, end and notification's length put right in turn, and reads the refusal's number in the line; at the last
-// step there is no line, since the notification is a part that waits for more.
+// Lists a capture, with its length, kind, end and notification's length put right in turn, and
+// reads the refusal's number in the line; at the last step there is no line, since the notification
+// is a part that waits for more.
 pub(crate) fn listed_line(step: u8) -> Option<u8> {
     let length = length_at(step, 4);
     let mut capture = [0u8; CAPTURE];

@@ -1,4 +1,5 @@
-// The refusal numbers, with when each is given and by which calls; and the order of each call's refusals.
+// The refusal numbers, with when each is given and by which calls; and the order of each call's
+// refusals.
 use crate::calls::{CALLS, Order};
 use record::refusal::Refusal;
 use std::{fmt, io};

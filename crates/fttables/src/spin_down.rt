@@ -1,4 +1,5 @@
-// What to write for a spin down and what comes back, where each call leads a run, and which target speeds a machine can have: as the calls answer.
+// What to write for a spin down and what comes back, where each call leads a run, and which target
+// speeds a machine can have: as the calls answer.
 use crate::clients::{RANGES, REQUEST_CONTROL, SPEEDS, SUCCESS, after, joined};
 use output::{Octets, first};
 use record::feature::Feature;
@@ -106,7 +107,8 @@ fn print_writes(rt: &impl Print) -> io::Result<()> {
     print_write(rt, console, 0, &IGNORE, "there is no run")
 }
 
-// The cell of a call in a run: its result if that is not success, otherwise its status, if there is one, and the run after it.
+// The cell of a call in a run: its result if that is not success, otherwise its status, if there is
+// one, and the run after it.
 #[derive(Clone, Copy)]
 struct Led(Reply);
 

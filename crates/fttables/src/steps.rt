@@ -5,7 +5,8 @@ pub(crate) fn mended<T: Drop>(step: u8, from: u8, wrong: T, right: T) -> T {
     if step < from { wrong } else { right }
 }
 
-// A notification's length: too long before a step, then shorter than its flags, then its flags alone, then enough for a group.
+// A notification's length: too long before a step, then shorter than its flags, then its flags
+// alone, then enough for a group.
 pub(crate) fn length_at(step: u8, from: u8) -> u16 {
     match step.checked_sub(from) {
         None => 513,

@@ -1,4 +1,5 @@
-// What the library's proved functions write: pages, macros, names and widths, as `print!` shows them.
+// What the library's proved functions write: pages, macros, names and widths, as `print!` shows
+// them.
 use output::{Ascii, first};
 use record::layout::Width;
 use reference::header::put_macros;
