@@ -1,76 +1,64 @@
 // The features, with the groups of each kind that belong to each.
-use crate::feature::print_feature;
-use output::{print, print_number};
+use crate::feature::FEATURES;
 use record::feature::Feature;
 use record::layout;
-use record::layout::{INDOOR_BIKE, TREADMILL, row_count, row_of};
+use record::layout::{INDOOR_BIKE, Row, TREADMILL, rows};
+use std::io;
 
-// A group belongs to one of the first 16 features; the last, user data retention, has no group.
-const FEATURES: u8 = 16;
-
-// No feature.
-const NONE: u8 = 255;
-
-// The feature that a group belongs to, by the group's first field: source document 000, tables 4.5 to 4.10.
-fn feature_of(field: u8) -> u8 {
+// The feature that a group belongs to, by the group's first field: source document 000, tables 4.5
+// to 4.10.
+fn feature_of(field: u8) -> Option<u8> {
     match field {
-        layout::AVERAGE_SPEED => Feature::AVERAGE_SPEED,
-        layout::AVERAGE_STROKE_RATE => Feature::CADENCE,
-        layout::CADENCE => Feature::CADENCE,
-        layout::AVERAGE_CADENCE => Feature::CADENCE,
-        layout::DISTANCE => Feature::DISTANCE,
-        layout::INCLINATION => Feature::INCLINATION,
-        layout::POSITIVE_GAIN => Feature::ELEVATION_GAIN,
-        layout::PACE => Feature::PACE,
-        layout::AVERAGE_PACE => Feature::PACE,
-        layout::STEP_RATE => Feature::STEP_COUNT,
-        layout::AVERAGE_STEP_RATE => Feature::STEP_COUNT,
-        layout::RESISTANCE => Feature::RESISTANCE,
-        layout::STRIDE_COUNT => Feature::STRIDE_COUNT,
-        layout::TOTAL_ENERGY => Feature::ENERGY,
-        layout::HEART_RATE => Feature::HEART_RATE,
-        layout::METABOLIC_EQUIVALENT => Feature::METABOLIC_EQUIVALENT,
-        layout::ELAPSED => Feature::ELAPSED,
-        layout::REMAINING => Feature::REMAINING,
-        layout::POWER => Feature::POWER,
-        layout::AVERAGE_POWER => Feature::POWER,
-        layout::BELT_FORCE => Feature::BELT_FORCE_AND_POWER_OUTPUT,
-        _ => NONE,
+        layout::AVERAGE_SPEED => Some(Feature::AVERAGE_SPEED),
+        layout::AVERAGE_STROKE_RATE | layout::CADENCE | layout::AVERAGE_CADENCE => {
+            Some(Feature::CADENCE)
+        }
+        layout::DISTANCE => Some(Feature::DISTANCE),
+        layout::INCLINATION => Some(Feature::INCLINATION),
+        layout::POSITIVE_GAIN => Some(Feature::ELEVATION_GAIN),
+        layout::PACE | layout::AVERAGE_PACE => Some(Feature::PACE),
+        layout::STEP_RATE | layout::AVERAGE_STEP_RATE => Some(Feature::STEP_COUNT),
+        layout::RESISTANCE => Some(Feature::RESISTANCE),
+        layout::STRIDE_COUNT => Some(Feature::STRIDE_COUNT),
+        layout::TOTAL_ENERGY => Some(Feature::ENERGY),
+        layout::HEART_RATE => Some(Feature::HEART_RATE),
+        layout::METABOLIC_EQUIVALENT => Some(Feature::METABOLIC_EQUIVALENT),
+        layout::ELAPSED => Some(Feature::ELAPSED),
+        layout::REMAINING => Some(Feature::REMAINING),
+        layout::POWER | layout::AVERAGE_POWER => Some(Feature::POWER),
+        layout::BELT_FORCE => Some(Feature::BELT_FORCE_AND_POWER_OUTPUT),
+        _ => None,
     }
 }
 
 // The cell of a feature and a kind: the bits of the kind's groups that belong to it, each once.
-fn print_cell(kind: u8, feature: u8) {
+fn print_cell(rt: &impl Print, kind: u8, feature: u8) -> io::Result<()> {
     let mut before = 0;
-    for i in 0..row_count(kind) {
-        let row = row_of(kind, i);
-        let bit = row.0;
-        if bit != before && feature_of(row.1) == feature {
-            print_number(b" ", bit as u64);
+    for Row(bit, field, _) in rows(kind).iter().copied() {
+        if bit != before && feature_of(field) == Some(feature) {
+            print!(rt; " {bit}")?;
         }
         before = bit;
     }
-    print(b" |");
+    print!(rt; " |")
 }
 
 // The line of a feature: its bit, its name, and a cell for each kind.
-fn print_row(feature: u8) {
-    print_number(b"| ", feature as u64);
-    print(b" | ");
-    print_feature(feature);
-    print(b" |");
+fn print_row(rt: &impl Print, feature: u8, name: &str) -> io::Result<()> {
+    print!(rt; "| {feature} | {name} |")?;
     for kind in TREADMILL..=INDOOR_BIKE {
-        print_cell(kind, feature);
+        print_cell(rt, kind, feature)?;
     }
-    print(b"\n");
+    println!(rt)
 }
 
-// The table of the features.
-pub(crate) fn print_answers() {
-    print(
-        b"\n## Features and groups\n\n| feature | name | treadmill | cross trainer | step climber | stair climber | rower | indoor bike |\n|---|---|---|---|---|---|---|---|\n",
-    );
-    for feature in 0..FEATURES {
-        print_row(feature);
+// The table of the features; the last, user data retention, has no group.
+pub(crate) fn print_answers(rt: &impl Print) -> io::Result<()> {
+    print!(rt;
+        "\n## Features and groups\n\n| feature | name | treadmill | cross trainer | step climber | stair climber | rower | indoor bike |\n|---|---|---|---|---|---|---|---|\n"
+    )?;
+    for (feature, name) in (0..Feature::USER_DATA_RETENTION).zip(FEATURES) {
+        print_row(rt, feature, name)?;
     }
+    Ok(())
 }

@@ -1,55 +1,132 @@
-// The calls, numbered as in the tables: the name of each, and what it answers step by step.
+// The calls: the name of each, what it answers step by step, and what a refusal leaves.
 use crate::clients::{confirming, connecting, disconnecting, indicating, opening, writing};
 use crate::records::{
     collecting, listed_line, listing, opening_collection, reading, reading_feature, splitting,
     splitting_from_c,
 };
-use crate::words::put_word;
-
-pub(crate) const CALLS: u8 = 14;
-
-pub(crate) const WRITE: u8 = 10;
+use std::fmt;
 
 // More steps than any call has refusals.
-pub(crate) const STEPS: u8 = 9;
+const STEPS: u8 = 9;
 
-// The name of a call.
-pub(crate) fn put_call(out: &mut [u8], at: usize, call: u8) -> usize {
-    put_word(
-        out,
-        at,
-        b"splitting\nsplitting called from C\nreading a notification\nreading a Feature value\nopening a collection\ncollecting a notification\nopening a machine\nconnect\ndisconnect\nindications\nwrite\nconfirm\nlisting a capture\na line of a listing\n",
-        call,
-    )
+// A call: the number of the refusal that it gives at a step, as long as it refuses; what follows
+// its refusals in their order; and what a refusal leaves.
+#[derive(Clone, Copy)]
+pub(crate) struct Call {
+    pub(crate) name: &'static str,
+    answer: fn(u8) -> Option<u8>,
+    pub(crate) then: &'static str,
+    pub(crate) left: &'static str,
+    // it can be asked at every step
+    ghost answers: { IsAlwaysCallable answer },
 }
 
-// The number of the refusal that a call gives at a step; 0 once it refuses no more. The calls are in the order
-// of the names.
-pub(crate) fn answer(call: u8, step: u8) -> u8 {
-    match call {
-        0 => splitting(step),
-        1 => splitting_from_c(step),
-        2 => reading(step),
-        3 => reading_feature(step),
-        4 => opening_collection(step),
-        5 => collecting(step),
-        6 => opening(step),
-        7 => connecting(step),
-        8 => disconnecting(step),
-        9 => indicating(step),
-        WRITE => writing(step),
-        11 => confirming(step),
-        12 => listing(step),
-        _ => listed_line(step),
+pub(crate) const CALLS: [Call; 14] = [
+    Call {
+        name: "splitting",
+        answer: splitting,
+        then: "",
+        left: "the lent octets as they were",
+    },
+    Call {
+        name: "splitting called from C",
+        answer: splitting_from_c,
+        then: "",
+        left: "the lent octets and numbers as they were",
+    },
+    Call {
+        name: "reading a notification",
+        answer: reading,
+        then: "",
+        left: "the lent numbers as they were",
+    },
+    Call {
+        name: "reading a Feature value",
+        answer: reading_feature,
+        then: "",
+        left: "nothing: the call has no state",
+    },
+    Call {
+        name: "opening a collection",
+        answer: opening_collection,
+        then: "",
+        left: "a collection that holds nothing, not to be used",
+    },
+    Call {
+        name: "collecting a notification",
+        answer: collecting,
+        then: "",
+        left: "11: the collection as it was; 30 to 34: nothing held",
+    },
+    Call {
+        name: "opening a machine",
+        answer: opening,
+        then: "",
+        left: "a console with no target setting, its ranges and target speeds all 0, not to be used",
+    },
+    Call {
+        name: "connect",
+        answer: connecting,
+        then: "",
+        left: "the console as it was",
+    },
+    Call {
+        name: "disconnect",
+        answer: disconnecting,
+        then: "",
+        left: "the console as it was",
+    },
+    Call {
+        name: "indications",
+        answer: indicating,
+        then: "",
+        left: "the console as it was",
+    },
+    Call {
+        name: "write",
+        answer: writing,
+        then: ", then the results",
+        left: "the console as it was",
+    },
+    Call {
+        name: "confirm",
+        answer: confirming,
+        then: "",
+        left: "the console as it was",
+    },
+    Call {
+        name: "listing a capture",
+        answer: listing,
+        then: "",
+        left: "the lent octets as they were",
+    },
+    Call {
+        name: "a line of a listing",
+        answer: listed_line,
+        then: "",
+        left: "36, 11 and 37: the listing ends; 30 to 32: nothing held, and the listing goes on",
+    },
+];
+
+impl Call {
+    // Whether it gives a refusal at one of its steps.
+    pub(crate) fn gives(self, number: u8) -> bool {
+        (0..STEPS).any(|step| (self.answer)(step) == Some(number))
     }
 }
 
-// Whether a call gives a refusal at one of its steps.
-pub(crate) fn gives(call: u8, number: u8) -> bool {
-    for step in 0..STEPS {
-        if answer(call, step) == number {
-            return true;
+// The numbers of the refusals that a call gives, in their order.
+#[derive(Clone, Copy)]
+pub(crate) struct Order(pub(crate) Call);
+
+impl fmt::Display for Order {
+    fn fmt<W: fmt::Write>(&self, f: &mut fmt::Formatter<W>) -> fmt::Result {
+        for (i, number) in (0..STEPS).filter_map(self.0.answer).enumerate() {
+            if i > 0 {
+                write!(f, ", ")?;
+            }
+            write!(f, "{number}")?;
         }
+        Ok(())
     }
-    false
 }

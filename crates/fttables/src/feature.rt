@@ -1,56 +1,59 @@
 // The two words of the Feature value.
-use crate::words::{print_word, put_bar, put_close, put_open, put_word};
 use record::feature::Feature;
-use text::text::{put_bytes, put_decimal};
+use std::io;
 
-// The names of the features, one per line.
-const FEATURES: [u8; 209] =
-    *b"average speed\ncadence\ndistance\ninclination\nelevation gain\npace\nstep count\nresistance\nstride count\nenergy\nheart rate\nmetabolic equivalent\nelapsed\nremaining\npower\nbelt force and power output\nuser data retention\n";
+// The names of the features, and of the target settings, in the order of their bits.
+pub(crate) const FEATURES: [&str; 17] = [
+    "average speed",
+    "cadence",
+    "distance",
+    "inclination",
+    "elevation gain",
+    "pace",
+    "step count",
+    "resistance",
+    "stride count",
+    "energy",
+    "heart rate",
+    "metabolic equivalent",
+    "elapsed",
+    "remaining",
+    "power",
+    "belt force and power output",
+    "user data retention",
+];
 
-// The line of a bit, with line `which` of the names.
-fn put_bit(out: &mut [u8], at: usize, bit: u8, names: &[u8], which: u8) -> usize {
-    let a = put_open(out, at);
-    let b = put_decimal(out, a, bit as u32);
-    let c = put_bar(out, b);
-    let d = put_word(out, c, names, which);
-    put_close(out, d)
-}
+const TARGETS: [&str; 17] = [
+    "speed",
+    "inclination",
+    "resistance",
+    "power",
+    "heart rate",
+    "energy",
+    "steps",
+    "strides",
+    "distance",
+    "training time",
+    "time in two heart rate zones",
+    "time in three heart rate zones",
+    "time in five heart rate zones",
+    "bike simulation",
+    "wheel circumference",
+    "spin down",
+    "cadence",
+];
 
 // The lines of a word's bits.
-fn put_bits(out: &mut [u8], at: usize, bits: [u8; 17], names: &[u8]) -> usize {
-    let mut next = at;
-    for i in 0..17u8 {
-        next = put_bit(out, next, bits[i as usize], names, i);
+fn print_bits(rt: &impl Print, bits: [u8; 17], names: [&str; 17]) -> io::Result<()> {
+    for (bit, name) in bits.iter().zip(names) {
+        println!(rt; "| {bit} | {name} |")?;
     }
-    next
+    Ok(())
 }
 
-// Prints the name of a feature.
-pub(crate) fn print_feature(feature: u8) {
-    print_word(&FEATURES, feature);
-}
-
-fn put_features(out: &mut [u8], at: usize) -> usize {
-    let next = put_bytes(out, at, b"\n## Features\n\n| bit | name |\n|---|---|\n");
-    put_bits(out, next, Feature::feature_bits(), &FEATURES)
-}
-
-fn put_targets(out: &mut [u8], at: usize) -> usize {
-    let next = put_bytes(
-        out,
-        at,
-        b"\n## Target settings\n\n| bit | name |\n|---|---|\n",
-    );
-    put_bits(
-        out,
-        next,
-        Feature::target_bits(),
-        b"speed\ninclination\nresistance\npower\nheart rate\nenergy\nsteps\nstrides\ndistance\ntraining time\ntime in two heart rate zones\ntime in three heart rate zones\ntime in five heart rate zones\nbike simulation\nwheel circumference\nspin down\ncadence\n",
-    )
-}
-
-pub(crate) fn put_feature(out: &mut [u8], at: usize) -> usize {
-    let a = put_bytes(out, at, b"# Feature value\n");
-    let b = put_features(out, a);
-    put_targets(out, b)
+pub(crate) fn print_feature(rt: &impl Print) -> io::Result<()> {
+    print!(rt; "# Feature value\n\n## Features\n\n| bit | name |\n|---|---|\n")?;
+    print_bits(rt, Feature::feature_bits(), FEATURES)?;
+    print!(rt; "\n## Target settings\n\n| bit | name |\n|---|---|\n")?;
+    print_bits(rt, Feature::target_bits(), TARGETS)
 }

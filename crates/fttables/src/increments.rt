@@ -1,11 +1,10 @@
-// Which targets a range admits, as the calls answer: in each line a machine is opened with a range, and the client that holds control writes a target.
-use crate::clients::ranges;
-use output::{print, print_number, print_octets, print_signed};
+// Which targets a range admits, as the calls answer: in each line a machine is opened with a range,
+// and the client that holds control writes a target.
+use crate::clients::{RANGES, REQUEST_CONTROL, SPEEDS, after, joined};
 use record::feature::Feature;
-use record::octets::unsigned;
 use service::control::ranges::{HeartRateRange, Ranges, SignedRange, SpeedRange};
-use service::control::spin_down::TargetSpeeds;
-use service::control::{Console, Outcome};
+use service::control::Console;
+use std::{fmt, io};
 
 // A machine on which the five targets with a range can be set.
 const FEATURE: Feature = Feature {
@@ -17,190 +16,211 @@ const FEATURE: Feature = Feature {
         | 1 << Feature::TARGET_HEART_RATE,
 };
 
-const SPEEDS: TargetSpeeds = TargetSpeeds {
-    low: 1000,
-    high: 2000,
+// Steps of 10, from 10 to 20 km/h.
+const SPEED: SpeedRange = SpeedRange {
+    least: 1000,
+    greatest: 2000,
+    increment: 10,
 };
 
-// The ends of an s16; the distance from one to the other is 65535.
-const LEAST: i16 = -32768;
+// All numbers that an i16 holds, where the distance from one end to the other is one step.
+const WHOLE: SignedRange = SignedRange {
+    least: i16::MIN,
+    greatest: i16::MAX,
+    increment: u16::MAX,
+};
 
-const GREATEST: i16 = 32767;
+// A range that begins below 0, where no resistance can be written.
+const ODD: SignedRange = SignedRange {
+    least: -5,
+    greatest: 3,
+    increment: 2,
+};
 
-const DISTANCE: u16 = 65535;
+// Its greatest value is off the steps.
+const TENS: HeartRateRange = HeartRateRange {
+    least: 0,
+    greatest: 25,
+    increment: 10,
+};
 
-const REQUEST_CONTROL: [u8; 1] = [0x00];
+// Its increment is above the whole distance.
+const ALONE: HeartRateRange = HeartRateRange {
+    least: 60,
+    greatest: 70,
+    increment: 20,
+};
 
-// The last cell if the machine is opened: the result of a write by client 0, who holds control.
-fn print_result(opened: Console, octets: &[u8]) {
-    let connected = opened.connect(0).console;
-    let indicated = connected.indicate(0, true).console;
-    let written = indicated.write(0, &REQUEST_CONTROL).console;
-    let holding = written.confirm(0).console;
-    let response = holding.write(0, octets).response;
-    let said = response.octets;
-    let result = [said[2]];
-    print_octets(&result);
-}
-
-// The last cell: the result of a write, or the refusal if no machine is opened with these ranges.
-fn print_answer(ranges: Ranges, octets: &[u8]) {
-    let feature = FEATURE.to_octets();
-    let reply = Console::open(&feature, ranges, SPEEDS);
-    let outcome = reply.outcome;
-    print(b" |");
-    match outcome {
-        Outcome::Done => print_result(reply.console, octets),
-        Outcome::Refused(refusal) => print_number(b" refused ", refusal.number() as u64),
+// The line of a range and a target: what a write of the octets gives to client 0, who holds
+// control; or the refusal, if no machine is opened with these ranges.
+fn print_line(
+    rt: &impl Print,
+    cells: impl fmt::Display + Drop,
+    ranges: Ranges,
+    octets: &[u8],
+) -> io::Result<()> {
+    print!(rt; "| {cells} |")?;
+    let reply = Console::open(&FEATURE.to_octets(), ranges, SPEEDS);
+    match reply.outcome {
+        Ok(()) => {
+            let holding = after(joined(reply.console, 0), &REQUEST_CONTROL);
+            let said = holding.write(0, octets).response;
+            println!(rt; " {:02X} |", said.octets[2])
+        }
+        Err(refusal) => println!(rt; " refused {} |", refusal.number()),
     }
-    print(b" |\n");
 }
 
 // The line of a range of speeds and a target.
-fn print_speed(range: SpeedRange, target: u16) {
-    let mut all = ranges(0);
-    all.speed = range;
-    print_number(b"| speed | ", range.least as u64);
-    print_number(b" | ", range.greatest as u64);
-    print_number(b" | ", range.increment as u64);
-    print_number(b" | ", target as u64);
-    let octets = [0x02, (target % 256) as u8, (target / 256) as u8];
-    print_answer(all, &octets);
+fn print_speed(rt: &impl Print, range: SpeedRange, target: u16) -> io::Result<()> {
+    let SpeedRange {
+        least,
+        greatest,
+        increment,
+    } = range;
+    let cells = format_args!("speed | {least} | {greatest} | {increment} | {target}");
+    let ranges = Ranges {
+        speed: range,
+        ..RANGES
+    };
+    let [low, high] = target.to_le_bytes();
+    print_line(rt, cells, ranges, &[0x02, low, high])
 }
 
 // The cells of a signed range.
-fn print_ends(name: &[u8], range: SignedRange) {
-    print(name);
-    print_signed(b"", range.least);
-    print_signed(b" | ", range.greatest);
-    print_number(b" | ", range.increment as u64);
-}
+#[derive(Clone, Copy)]
+struct Ends(SignedRange);
 
-// The cell of a signed target, and what a write of it gives.
-fn print_target(all: Ranges, op: u8, target: i16) {
-    print_signed(b" | ", target);
-    let bits = unsigned(target);
-    let octets = [op, (bits % 256) as u8, (bits / 256) as u8];
-    print_answer(all, &octets);
+impl fmt::Display for Ends {
+    fn fmt<W: fmt::Write>(&self, f: &mut fmt::Formatter<W>) -> fmt::Result {
+        let SignedRange {
+            least,
+            greatest,
+            increment,
+        } = self.0;
+        write!(f, "{least} | {greatest} | {increment}")
+    }
 }
 
 // The line of a range of inclinations and a target.
-fn print_inclination(range: SignedRange, target: i16) {
-    let mut all = ranges(0);
-    all.inclination = range;
-    print_ends(b"| inclination | ", range);
-    print_target(all, 0x03, target);
+fn print_inclination(rt: &impl Print, range: SignedRange, target: i16) -> io::Result<()> {
+    let cells = format_args!("inclination | {} | {target}", Ends(range));
+    let ranges = Ranges {
+        inclination: range,
+        ..RANGES
+    };
+    let [low, high] = target.to_le_bytes();
+    print_line(rt, cells, ranges, &[0x03, low, high])
 }
 
 // The line of a range of resistances and a target, which is one unsigned octet.
-fn print_resistance(range: SignedRange, target: u8) {
-    let mut all = ranges(0);
-    all.resistance = range;
-    print_ends(b"| resistance | ", range);
-    print_number(b" | ", target as u64);
-    let octets = [0x04, target];
-    print_answer(all, &octets);
+fn print_resistance(rt: &impl Print, range: SignedRange, target: u8) -> io::Result<()> {
+    let cells = format_args!("resistance | {} | {target}", Ends(range));
+    let ranges = Ranges {
+        resistance: range,
+        ..RANGES
+    };
+    print_line(rt, cells, ranges, &[0x04, target])
 }
 
 // The line of a range of powers and a target.
-fn print_power(range: SignedRange, target: i16) {
-    let mut all = ranges(0);
-    all.power = range;
-    print_ends(b"| power | ", range);
-    print_target(all, 0x05, target);
+fn print_power(rt: &impl Print, range: SignedRange, target: i16) -> io::Result<()> {
+    let cells = format_args!("power | {} | {target}", Ends(range));
+    let ranges = Ranges {
+        power: range,
+        ..RANGES
+    };
+    let [low, high] = target.to_le_bytes();
+    print_line(rt, cells, ranges, &[0x05, low, high])
 }
 
 // The line of a range of heart rates and a target.
-fn print_heart_rate(range: HeartRateRange, target: u8) {
-    let mut all = ranges(0);
-    all.heart_rate = range;
-    print_number(b"| heart rate | ", range.least as u64);
-    print_number(b" | ", range.greatest as u64);
-    print_number(b" | ", range.increment as u64);
-    print_number(b" | ", target as u64);
-    let octets = [0x06, target];
-    print_answer(all, &octets);
-}
-
-fn speed_range(least: u16, greatest: u16, increment: u16) -> SpeedRange {
-    SpeedRange {
+fn print_heart_rate(rt: &impl Print, range: HeartRateRange, target: u8) -> io::Result<()> {
+    let HeartRateRange {
         least,
         greatest,
         increment,
-    }
-}
-
-fn signed_range(least: i16, greatest: i16, increment: u16) -> SignedRange {
-    SignedRange {
-        least,
-        greatest,
-        increment,
-    }
-}
-
-fn heart_rate_range(least: u8, greatest: u8, increment: u8) -> HeartRateRange {
-    HeartRateRange {
-        least,
-        greatest,
-        increment,
-    }
+    } = range;
+    let cells = format_args!("heart rate | {least} | {greatest} | {increment} | {target}");
+    let ranges = Ranges {
+        heart_rate: range,
+        ..RANGES
+    };
+    print_line(rt, cells, ranges, &[0x06, target])
 }
 
 // Steps of 10 and of 1, and both sides of the ends.
-fn print_speeds() {
-    let tens = speed_range(1000, 2000, 10);
-    print_speed(tens, 990);
-    print_speed(tens, 1000);
-    print_speed(tens, 1005);
-    print_speed(tens, 1010);
-    print_speed(tens, 2000);
-    print_speed(tens, 2010);
-    print_speed(speed_range(1000, 2000, 1), 1005);
+fn print_speeds(rt: &impl Print) -> io::Result<()> {
+    for target in [990, 1000, 1005, 1010, 2000, 2010] {
+        print_speed(rt, SPEED, target)?;
+    }
+    let ones = SpeedRange {
+        increment: 1,
+        ..SPEED
+    };
+    print_speed(rt, ones, 1005)
 }
 
-// The greatest distance is one step, so that nothing between the ends is admitted; and a range that begins below 0, where no resistance can be written.
-fn print_signed_ranges() {
-    let whole = signed_range(LEAST, GREATEST, DISTANCE);
-    print_inclination(whole, LEAST);
-    print_inclination(whole, -32767);
-    print_inclination(whole, 0);
-    print_inclination(whole, 32766);
-    print_inclination(whole, GREATEST);
-    let odd = signed_range(-5, 3, 2);
-    print_resistance(odd, 0);
-    print_resistance(odd, 1);
-    print_resistance(odd, 2);
-    print_resistance(odd, 3);
-    print_power(whole, LEAST);
-    print_power(whole, -1);
-    print_power(whole, GREATEST);
+// Of the whole range nothing between the ends is admitted.
+fn print_inclinations(rt: &impl Print) -> io::Result<()> {
+    for target in [i16::MIN, -32767, 0, 32766, i16::MAX] {
+        print_inclination(rt, WHOLE, target)?;
+    }
+    Ok(())
 }
 
-// The greatest value is off the steps; an increment is above the whole distance.
-fn print_heart_rates() {
-    let tens = heart_rate_range(0, 25, 10);
-    print_heart_rate(tens, 20);
-    print_heart_rate(tens, 25);
-    let alone = heart_rate_range(60, 70, 20);
-    print_heart_rate(alone, 60);
-    print_heart_rate(alone, 70);
+fn print_resistances(rt: &impl Print) -> io::Result<()> {
+    for target in 0..=3 {
+        print_resistance(rt, ODD, target)?;
+    }
+    Ok(())
+}
+
+fn print_powers(rt: &impl Print) -> io::Result<()> {
+    for target in [i16::MIN, -1, i16::MAX] {
+        print_power(rt, WHOLE, target)?;
+    }
+    Ok(())
+}
+
+fn print_heart_rates(rt: &impl Print) -> io::Result<()> {
+    for (range, target) in [(TENS, 20), (TENS, 25), (ALONE, 60), (ALONE, 70)] {
+        print_heart_rate(rt, range, target)?;
+    }
+    Ok(())
 }
 
 // "16 also for an increment of 0", in each range.
-fn print_refused() {
-    print_speed(speed_range(1000, 2000, 0), 1000);
-    print_inclination(signed_range(-30, 150, 0), -30);
-    print_resistance(signed_range(-5, 3, 0), 0);
-    print_power(signed_range(0, 500, 0), 0);
-    print_heart_rate(heart_rate_range(60, 200, 0), 60);
+fn print_refused(rt: &impl Print) -> io::Result<()> {
+    let speed = SpeedRange {
+        increment: 0,
+        ..SPEED
+    };
+    print_speed(rt, speed, 1000)?;
+    let signed = |least, greatest| SignedRange {
+        least,
+        greatest,
+        increment: 0,
+    };
+    print_inclination(rt, signed(-30, 150), -30)?;
+    print_resistance(rt, signed(-5, 3), 0)?;
+    print_power(rt, signed(0, 500), 0)?;
+    let heart_rate = HeartRateRange {
+        least: 60,
+        greatest: 200,
+        increment: 0,
+    };
+    print_heart_rate(rt, heart_rate, 60)
 }
 
-pub(crate) fn print_steps() {
-    print(
-        b"\n## Steps\n\n| range | least | greatest | increment | target | answer |\n|---|---|---|---|---|---|\n",
-    );
-    print_speeds();
-    print_signed_ranges();
-    print_heart_rates();
-    print_refused();
+pub(crate) fn print_steps(rt: &impl Print) -> io::Result<()> {
+    print!(rt;
+        "\n## Steps\n\n| range | least | greatest | increment | target | answer |\n|---|---|---|---|---|---|\n"
+    )?;
+    print_speeds(rt)?;
+    print_inclinations(rt)?;
+    print_resistances(rt)?;
+    print_powers(rt)?;
+    print_heart_rates(rt)?;
+    print_refused(rt)
 }

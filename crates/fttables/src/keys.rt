@@ -1,27 +1,26 @@
 // The keys of a listing, except the fields'.
-use output::print;
+use output::Ascii;
+use std::io;
 use text::names::{DIRECTION, GROUPS, KIND, RECORD, REFUSED};
 
 // The line of a key: the key, and what follows it.
-fn print_key(key: &[u8], what: &[u8]) {
-    print(b"| `");
-    print(key);
-    print(b"` | ");
-    print(what);
-    print(b" |\n");
+fn print_key(rt: &impl Print, key: &[u8], what: &str) -> io::Result<()> {
+    println!(rt; "| `{}` | {what} |", Ascii(key))
 }
 
-pub(crate) fn print_keys() {
-    print(b"\n# Listing\n\n## Keys\n\n| key | what follows it |\n|---|---|\n");
-    print_key(&RECORD, b"the number of the record, counted from 1");
-    print_key(&KIND, b"the kind, 1 to 6");
+pub(crate) fn print_keys(rt: &impl Print) -> io::Result<()> {
+    print!(rt; "\n# Listing\n\n## Keys\n\n| key | what follows it |\n|---|---|\n")?;
+    print_key(rt, &RECORD, "the number of the record, counted from 1")?;
+    print_key(rt, &KIND, "the kind, 1 to 6")?;
     print_key(
+        rt,
         &GROUPS,
-        b"the set of optional groups: the sum of 2 to the power of each bit",
-    );
+        "the set of optional groups: the sum of 2 to the power of each bit",
+    )?;
     print_key(
+        rt,
         &DIRECTION,
-        b"0 forward, 1 backward; 0 for every kind but the cross trainer",
-    );
-    print_key(&REFUSED, b"the number of a refusal");
+        "0 forward, 1 backward; 0 for every kind but the cross trainer",
+    )?;
+    print_key(rt, &REFUSED, "the number of a refusal")
 }

@@ -1,172 +1,167 @@
 // The parts of a record with all groups of its kind, as the splitter cuts them.
-use output::{first, print, print_number, print_octets};
+use output::{Octets, first};
 use record::groups::{BITS, flags_length, has, listed};
 use record::layout::CROSS_TRAINER;
-use record::notification::{Part, PartAnswer, part_of};
-use record::split::{GREATEST_PAYLOAD, MOST_PARTS, SplitAnswer, split_numbers};
+use record::notification::{Part, part_of};
+use record::numbers::Wire;
+use record::split::{GREATEST_PAYLOAD, MOST_PARTS, split_numbers};
+use std::{fmt, io};
 
-// The longest payload of a table here.
-const LONGEST: usize = 30;
+// A record with every value 0, and the payload at which it is split.
+#[derive(Clone, Copy)]
+pub(crate) struct Splitting {
+    kind: u8,
+    groups: u32,
+    // 0 forward, 1 backward
+    direction: u8,
+    payload: usize,
+}
 
-const FORWARD: u8 = 0;
+// A part: its octets, what they say, and the number of all parts.
+#[derive(Clone, Copy)]
+pub(crate) struct Sent {
+    space: [u8; GREATEST_PAYLOAD],
+    pub(crate) length: usize,
+    part: Part,
+    pub(crate) parts: usize,
+}
 
-const BACKWARD: u8 = 1;
+impl Splitting {
+    // All groups of a kind, forward.
+    pub(crate) fn whole(kind: u8, payload: usize) -> Splitting {
+        Splitting {
+            kind,
+            groups: listed(kind),
+            direction: 0,
+            payload,
+        }
+    }
 
-// A space and the bit, if it is in a set.
-fn print_bit(set: u32, bit: u8) {
-    if has(set, bit) {
-        print_number(b" ", bit as u64);
+    // The part of a number, if there is one.
+    pub(crate) fn part(self, number: usize) -> Option<Sent> {
+        let Splitting {
+            kind,
+            groups,
+            direction,
+            payload,
+        } = self;
+        let mut space = [0u8; GREATEST_PAYLOAD];
+        let wire = Wire {
+            kind,
+            groups,
+            direction,
+            numbers: [0; 31],
+        };
+        let extent = split_numbers(&wire, payload, number, &mut space).ok()?;
+        let part = part_of(kind, first(&space, extent.length)).ok()?;
+        Some(Sent {
+            space,
+            length: extent.length,
+            part,
+            parts: extent.parts,
+        })
+    }
+}
+
+impl Sent {
+    // The octets of its flags.
+    fn flags(&self, kind: u8) -> &[u8] {
+        first(&self.space, flags_length(kind))
     }
 }
 
 // The bits of a set of groups.
-fn print_bits(set: u32) {
-    for bit in 1..BITS {
-        print_bit(set, bit);
+#[derive(Clone, Copy)]
+struct Groups(u32);
+
+impl fmt::Display for Groups {
+    fn fmt<W: fmt::Write>(&self, f: &mut fmt::Formatter<W>) -> fmt::Result {
+        let set = self.0;
+        for bit in (1..BITS).filter(|bit| has(set, *bit)) {
+            write!(f, " {bit}")?;
+        }
+        Ok(())
     }
 }
 
 // The groups of a part: `main` for the main group, and the others by their bits.
-fn print_groups(part: Part) {
-    if part.last {
-        print(b" main");
-    }
-    print_bits(part.groups);
-}
+#[derive(Clone, Copy)]
+struct Carried(Part);
 
-// Writes a part of a record with the given groups and every value 0; returns its length, or 0 if there is no such part.
-fn split_off(
-    kind: u8,
-    groups: u32,
-    direction: u8,
-    payload: usize,
-    part: u8,
-    out: &mut [u8],
-) -> usize {
-    let numbers = [0u32; 31];
-    match split_numbers(
-        kind,
-        groups,
-        direction,
-        &numbers,
-        payload,
-        part as usize,
-        out,
-    ) {
-        SplitAnswer::Part(extent) => extent.length,
-        SplitAnswer::Refused(_) => 0,
-    }
-}
-
-// The same for a record with all groups of the kind.
-fn split_all(kind: u8, direction: u8, payload: usize, part: u8, out: &mut [u8]) -> usize {
-    split_off(kind, listed(kind), direction, payload, part, out)
-}
-
-// For a cross trainer's part, another cell: its flags when the direction is backward.
-fn print_backward(kind: u8, payload: usize, part: u8) {
-    if kind == CROSS_TRAINER {
-        let mut space = [0u8; LONGEST];
-        let out: &mut [u8] = &mut space;
-        split_all(kind, BACKWARD, payload, part, out);
-        print_octets(first(out, flags_length(kind)));
-        print(b" |");
-    }
-}
-
-// The line of a part: its number, flags, octets and groups.
-fn print_row(kind: u8, payload: usize, number: u8, part: Part, octets: &[u8]) {
-    print_number(b"| ", number as u64);
-    print(b" |");
-    print_octets(first(octets, flags_length(kind)));
-    print(b" |");
-    print_backward(kind, payload, number);
-    print_number(b" ", octets.len() as u64);
-    print(b" |");
-    print_groups(part);
-    print(b" |\n");
-}
-
-// The line of a part of a record with all groups of the kind; nothing if there is no such part.
-fn print_part(kind: u8, payload: usize, part: u8) {
-    let mut space = [0u8; LONGEST];
-    let out: &mut [u8] = &mut space;
-    let length = split_all(kind, FORWARD, payload, part, out);
-    let octets = first(out, length);
-    match part_of(kind, octets) {
-        PartAnswer::Part(said) => print_row(kind, payload, part, said, octets),
-        PartAnswer::Refused(_) => {}
-    }
-}
-
-// The table's head; the cross trainer has a direction in its flags.
-fn print_columns(kind: u8) {
-    if kind == CROSS_TRAINER {
-        print(
-            b"| part | flags, forward | flags, backward | length | groups |\n|---|---|---|---|---|\n",
-        );
-    } else {
-        print(b"| part | flags | length | groups |\n|---|---|---|---|\n");
-    }
-}
-
-// The table of a kind's parts at a payload.
-pub(crate) fn print_parts(kind: u8, payload: usize) {
-    print_number(b"\n## Parts at payload ", payload as u64);
-    print(b"\n\n");
-    print_columns(kind);
-    for part in 0..MOST_PARTS as u8 {
-        print_part(kind, payload, part);
-    }
-}
-
-// The first cells of a step of splitting: what remains, how long it would be in one part, and whether that fits.
-fn print_try(kind: u8, payload: usize, left: u32) {
-    let mut space = [0u8; GREATEST_PAYLOAD];
-    let out: &mut [u8] = &mut space;
-    let whole = split_off(kind, left, FORWARD, GREATEST_PAYLOAD, 0, out);
-    print(b"|");
-    print_bits(left);
-    print_number(b" | ", whole as u64);
-    if whole <= payload {
-        print(b" | yes");
-    } else {
-        print(b" | no");
-    }
-}
-
-// The other cells: the part that is sent, its groups and its length.
-fn print_sent(number: u8, part: Part, length: usize) {
-    print_number(b" | part ", number as u64);
-    print(b" |");
-    print_groups(part);
-    print_number(b" | ", length as u64);
-    print(b" |\n");
-}
-
-// Prints a step of splitting, if there is one; returns the groups that remain after it.
-fn print_step(kind: u8, payload: usize, part: u8, left: u32) -> u32 {
-    let mut space = [0u8; LONGEST];
-    let out: &mut [u8] = &mut space;
-    let length = split_all(kind, FORWARD, payload, part, out);
-    match part_of(kind, first(out, length)) {
-        PartAnswer::Part(said) => {
-            print_try(kind, payload, left);
-            print_sent(part, said, length);
-            left ^ said.groups
+impl fmt::Display for Carried {
+    fn fmt<W: fmt::Write>(&self, f: &mut fmt::Formatter<W>) -> fmt::Result {
+        if self.0.last {
+            write!(f, " main")?;
         }
-        PartAnswer::Refused(_) => left,
+        write!(f, "{}", Groups(self.0.groups))
     }
+}
+
+// The line of a part: its number, flags, octets and groups; for a cross trainer's part, also its
+// flags when the direction is backward.
+fn print_part(rt: &impl Print, splitting: Splitting, number: usize) -> io::Result<()> {
+    let Some(sent) = splitting.part(number) else {
+        return Ok(());
+    };
+    let kind = splitting.kind;
+    print!(rt; "| {number} |{} |", Octets(sent.flags(kind)))?;
+    if kind == CROSS_TRAINER {
+        let backward = Splitting {
+            direction: 1,
+            ..splitting
+        };
+        if let Some(sent) = backward.part(number) {
+            print!(rt; "{} |", Octets(sent.flags(kind)))?;
+        }
+    }
+    println!(rt; " {} |{} |", sent.length, Carried(sent.part))
+}
+
+// The table of a kind's parts at a payload; the cross trainer has a direction in its flags.
+pub(crate) fn print_parts(rt: &impl Print, kind: u8, payload: usize) -> io::Result<()> {
+    print!(rt; "\n## Parts at payload {payload}\n\n")?;
+    if kind == CROSS_TRAINER {
+        print!(rt;
+            "| part | flags, forward | flags, backward | length | groups |\n|---|---|---|---|---|\n"
+        )?;
+    } else {
+        print!(rt; "| part | flags | length | groups |\n|---|---|---|---|\n")?;
+    }
+    for number in 0..MOST_PARTS {
+        print_part(rt, Splitting::whole(kind, payload), number)?;
+    }
+    Ok(())
+}
+
+// A step of splitting: what remains, how long it would be in one part, and whether that fits; and
+// the part that is sent.
+fn print_step(rt: &impl Print, left: Splitting, number: usize, sent: Sent) -> io::Result<()> {
+    let one = Splitting {
+        payload: GREATEST_PAYLOAD,
+        ..left
+    };
+    let whole = one.part(0).map_or(0, |sent| sent.length);
+    let fits = if whole <= left.payload { "yes" } else { "no" };
+    println!(rt;
+        "|{} | {whole} | {fits} | part {number} |{} | {} |",
+        Groups(left.groups),
+        Carried(sent.part),
+        sent.length,
+    )
 }
 
 // The steps by which a record with all groups of the kind is split at a payload.
-pub(crate) fn print_cut(kind: u8, payload: usize) {
-    print_number(b"\n## The cut at payload ", payload as u64);
-    print(
-        b"\n\n| remaining groups | octets with flags and main | fits | sent | groups in it | its octets |\n|---|---|---|---|---|---|\n",
-    );
-    let mut left = listed(kind);
-    for part in 0..MOST_PARTS as u8 {
-        left = print_step(kind, payload, part, left);
+pub(crate) fn print_cut(rt: &impl Print, kind: u8, payload: usize) -> io::Result<()> {
+    print!(rt;
+        "\n## The cut at payload {payload}\n\n| remaining groups | octets with flags and main | fits | sent | groups in it | its octets |\n|---|---|---|---|---|---|\n"
+    )?;
+    let all = Splitting::whole(kind, payload);
+    let mut left = all;
+    for number in 0..MOST_PARTS {
+        if let Some(sent) = all.part(number) {
+            print_step(rt, left, number, sent)?;
+            left.groups ^= sent.part.groups;
+        }
     }
+    Ok(())
 }

@@ -1,17 +1,12 @@
-// What to write for a spin down and what comes back, where each call leads a run, and which target speeds a machine can have: as the calls answer.
-use crate::clients::ranges;
-use output::{first, print, print_number, print_octets};
+// What to write for a spin down and what comes back, where each call leads a run, and which target
+// speeds a machine can have: as the calls answer.
+use crate::clients::{RANGES, REQUEST_CONTROL, SPEEDS, SUCCESS, after, joined};
+use output::{Octets, first};
 use record::feature::Feature;
 use service::control::counted::Counted;
 use service::control::spin_down::{Run, TargetSpeeds};
-use service::control::{Console, Outcome, Reply};
-
-// The target speeds of the machine that these calls are made on.
-const LOW: u16 = 1000;
-
-const HIGH: u16 = 2000;
-
-const SUCCESS: u8 = 1;
+use service::control::{Console, Reply};
+use std::{fmt, io};
 
 const START: [u8; 2] = [0x13, 1];
 
@@ -22,221 +17,177 @@ const NEITHER: [u8; 2] = [0x13, 3];
 // The parameter is missing.
 const BARE: [u8; 1] = [0x13];
 
-const REQUEST_CONTROL: [u8; 1] = [0x00];
-
 const RESET: [u8; 1] = [0x01];
 
-// A machine is opened with target speeds; `supported` says whether it has target bit 15.
-fn opening(supported: bool, low: u16, high: u16) -> Reply {
-    let mut targets = 0;
-    if supported {
-        targets = 1 << Feature::TARGET_SPIN_DOWN;
-    }
+// The target bit of spin down.
+const SPIN_DOWN: u32 = 1 << Feature::TARGET_SPIN_DOWN;
+
+// The columns of the runs.
+const RUNS: [Run; 3] = [Run::Off, Run::Quiet, Run::Warned];
+
+// A machine is opened with target bits and target speeds.
+fn opening(targets: u32, speeds: TargetSpeeds) -> Reply {
     let feature = Feature {
         features: 0,
         targets,
     };
-    let octets = feature.to_octets();
-    Console::open(&octets, ranges(0), TargetSpeeds { low, high })
-}
-
-// The console after a client connects and turns its indications on.
-fn joined(console: Console, client: u8) -> Console {
-    let connected = console.connect(client).console;
-    connected.indicate(client, true).console
-}
-
-// The console after a write by client 0, and its confirmation.
-fn after(console: Console, octets: &[u8]) -> Console {
-    let written = console.write(0, octets).console;
-    written.confirm(0).console
+    Console::open(&feature.to_octets(), RANGES, speeds)
 }
 
 // A console whose client 0 holds control, and where client 1 can write too.
-fn ready(supported: bool) -> Console {
-    let opened = opening(supported, LOW, HIGH).console;
+fn ready(targets: u32) -> Console {
+    let opened = opening(targets, SPEEDS).console;
     after(joined(joined(opened, 0), 1), &REQUEST_CONTROL)
 }
 
 // The same with no run, with one that has said nothing, or with one that has said 4.
 fn in_run(run: Run) -> Console {
-    let console = ready(true);
+    let console = ready(SPIN_DOWN);
     match run {
         Run::Off => console,
         Run::Quiet => after(console, &START),
-        Run::Warned => after(console, &START).flywheel(HIGH).console,
+        Run::Warned => after(console, &START).flywheel(SPEEDS.high).console,
     }
 }
 
-fn print_run(run: Run) {
+fn name(run: Run) -> &'static str {
     match run {
-        Run::Off => print(b" no run |"),
-        Run::Quiet => print(b" a run that has said nothing |"),
-        Run::Warned => print(b" a run that has said 4 |"),
+        Run::Off => "no run",
+        Run::Quiet => "a run that has said nothing",
+        Run::Warned => "a run that has said 4",
     }
 }
 
-// A cell of octets.
-fn print_counted(counted: Counted) {
-    let octets = counted.octets;
-    if counted.count == 0 {
-        print(b" none");
+// The octets of a response or a status, or that there is none.
+#[derive(Clone, Copy)]
+struct Said(Counted);
+
+impl fmt::Display for Said {
+    fn fmt<W: fmt::Write>(&self, f: &mut fmt::Formatter<W>) -> fmt::Result {
+        let sent = self.0;
+        if sent.count == 0 {
+            return write!(f, " none");
+        }
+        let octets = first(&sent.octets, usize::from(sent.count));
+        write!(f, "{}", Octets(octets))
     }
-    print_octets(first(&octets, counted.count as usize));
-    print(b" |");
 }
 
 // The line of a write: its octets, where it is made, the response, the status and the run after it.
-fn print_write(console: Console, client: u8, octets: &[u8], place: &[u8]) {
+fn print_write(
+    rt: &impl Print,
+    console: Console,
+    client: u8,
+    octets: &[u8],
+    place: &str,
+) -> io::Result<()> {
     let reply = console.write(client, octets);
-    let machine = reply.console.machine;
-    let run = machine.run;
-    print(b"|");
-    print_octets(octets);
-    print(place);
-    print_counted(reply.response);
-    print_counted(reply.status);
-    print_run(run);
-    print(b"\n");
+    println!(rt;
+        "|{} | {place} |{} |{} | {} |",
+        Octets(octets),
+        Said(reply.response),
+        Said(reply.status),
+        name(reply.console.machine.run),
+    )
 }
 
-fn print_writes() {
-    print(
-        b"\n## Writes\n\n| write | where | response | status | after it |\n|---|---|---|---|---|\n",
-    );
-    print_write(ready(false), 0, &START, b" | target bit 15 is 0 |");
-    print_write(
-        ready(true),
-        1,
-        &START,
-        b" | the client does not hold control |",
-    );
-    print_write(ready(true), 0, &BARE, b" | the parameter is missing |");
-    print_write(
-        ready(true),
-        0,
-        &NEITHER,
-        b" | the parameter is neither 1 nor 2 |",
-    );
-    print_write(ready(true), 0, &START, b" | there is no run: it starts |");
-    print_write(in_run(Run::Quiet), 0, &START, b" | there is a run |");
-    print_write(
-        in_run(Run::Quiet),
-        0,
-        &IGNORE,
-        b" | there is a run: it is ignored |",
-    );
-    print_write(ready(true), 0, &IGNORE, b" | there is no run |");
+fn print_writes(rt: &impl Print) -> io::Result<()> {
+    print!(rt;
+        "\n## Writes\n\n| write | where | response | status | after it |\n|---|---|---|---|---|\n"
+    )?;
+    let console = ready(SPIN_DOWN);
+    let running = in_run(Run::Quiet);
+    print_write(rt, ready(0), 0, &START, "target bit 15 is 0")?;
+    print_write(rt, console, 1, &START, "the client does not hold control")?;
+    print_write(rt, console, 0, &BARE, "the parameter is missing")?;
+    print_write(rt, console, 0, &NEITHER, "the parameter is neither 1 nor 2")?;
+    print_write(rt, console, 0, &START, "there is no run: it starts")?;
+    print_write(rt, running, 0, &START, "there is a run")?;
+    print_write(rt, running, 0, &IGNORE, "there is a run: it is ignored")?;
+    print_write(rt, console, 0, &IGNORE, "there is no run")
 }
 
-// The calls that the runs are put to, one line each.
+// The cell of a call in a run: its result if that is not success, otherwise its status, if there is
+// one, and the run after it.
 #[derive(Clone, Copy)]
-enum Call {
-    Start,
-    Ignore,
-    Reset,
-    Disconnect(u8),
-    Flywheel(u16),
-}
+struct Led(Reply);
 
-fn made(console: Console, call: Call) -> Reply {
-    match call {
-        Call::Start => console.write(0, &START),
-        Call::Ignore => console.write(0, &IGNORE),
-        Call::Reset => console.write(0, &RESET),
-        Call::Disconnect(client) => console.disconnect(client),
-        Call::Flywheel(speed) => console.flywheel(speed),
+impl fmt::Display for Led {
+    fn fmt<W: fmt::Write>(&self, f: &mut fmt::Formatter<W>) -> fmt::Result {
+        let Reply {
+            console,
+            response,
+            status,
+            ..
+        } = self.0;
+        if response.count > 0 && response.octets[2] != SUCCESS {
+            return write!(f, "result {:02X}", response.octets[2]);
+        }
+        if status.count > 0 {
+            write!(f, "status{}: ", Said(status))?;
+        }
+        write!(f, "{}", name(console.machine.run))
     }
 }
 
-// Whether octets are a response with another result than success.
-fn has_failed(response: Counted) -> bool {
-    let octets = response.octets;
-    response.count != 0 && octets[2] != SUCCESS
-}
-
-fn print_result(response: Counted) {
-    let octets = response.octets;
-    let result = [octets[2]];
-    print(b" result");
-    print_octets(&result);
-    print(b" |");
-}
-
-// A status and a colon; nothing if there is none.
-fn print_status(status: Counted) {
-    if status.count == 0 {
-        return;
+// The line of a call, which is made in each of the runs.
+fn print_line<F: Fn(Console) -> Reply + Drop>(
+    rt: &impl Print,
+    words: &str,
+    call: F,
+) -> io::Result<()>
+    requires { F.IsAlwaysCallable call }
+{
+    print!(rt; "| {words} |")?;
+    for run in RUNS {
+        print!(rt; " {} |", Led(call(in_run(run))))?;
     }
-    let octets = status.octets;
-    print(b" status");
-    print_octets(first(&octets, status.count as usize));
-    print(b":");
+    println!(rt)
 }
 
-// The cell of a call in a run: its result if that is not success, otherwise its status and the run after it.
-fn print_cell(run: Run, call: Call) {
-    let reply = made(in_run(run), call);
-    let machine = reply.console.machine;
-    let left = machine.run;
-    if has_failed(reply.response) {
-        print_result(reply.response);
-    } else {
-        print_status(reply.status);
-        print_run(left);
-    }
-}
-
-// The line of a call.
-fn print_line(words: &[u8], call: Call) {
-    print(words);
-    print_cell(Run::Off, call);
-    print_cell(Run::Quiet, call);
-    print_cell(Run::Warned, call);
-    print(b"\n");
-}
-
-fn print_runs() {
-    print(
-        b"\n## Runs\n\n| call | no run | a run that has said nothing | a run that has said 4 |\n|---|---|---|---|\n",
-    );
-    print_line(b"| write 13 01 |", Call::Start);
-    print_line(b"| write 13 02 |", Call::Ignore);
-    print_line(b"| write 01 |", Call::Reset);
-    print_line(b"| the holder disconnects |", Call::Disconnect(0));
-    print_line(b"| another client disconnects |", Call::Disconnect(1));
-    print_line(b"| speed above high |", Call::Flywheel(HIGH + 1));
+fn print_runs(rt: &impl Print) -> io::Result<()> {
+    print!(rt;
+        "\n## Runs\n\n| call | no run | a run that has said nothing | a run that has said 4 |\n|---|---|---|---|\n"
+    )?;
+    let TargetSpeeds { low, high } = SPEEDS;
+    print_line(rt, "write 13 01", |console| console.write(0, &START))?;
+    print_line(rt, "write 13 02", |console| console.write(0, &IGNORE))?;
+    print_line(rt, "write 01", |console| console.write(0, &RESET))?;
     print_line(
-        b"| speed at or below high, above low |",
-        Call::Flywheel(HIGH),
-    );
-    print_line(b"| speed at or below low |", Call::Flywheel(LOW));
+        rt,
+        "the holder disconnects",
+        |console| console.disconnect(0),
+    )?;
+    print_line(rt, "another client disconnects", |console| {
+        console.disconnect(1)
+    })?;
+    print_line(rt, "speed above high", |console| {
+        console.flywheel(high + 1)
+    })?;
+    print_line(rt, "speed at or below high, above low", |console| {
+        console.flywheel(high)
+    })?;
+    print_line(rt, "speed at or below low", |console| {
+        console.flywheel(low)
+    })
 }
 
-// The line of two target speeds.
-fn print_target(low: u16, high: u16) {
-    let outcome = opening(true, low, high).outcome;
-    print_number(b"| ", low as u64);
-    print_number(b" | ", high as u64);
-    match outcome {
-        Outcome::Done => print(b" | done |\n"),
-        Outcome::Refused(refusal) => {
-            print_number(b" | refused ", refusal.number() as u64);
-            print(b" |\n");
+fn print_targets(rt: &impl Print) -> io::Result<()> {
+    print!(rt; "\n## Target speeds\n\n| low | high | opening a machine |\n|---|---|---|\n")?;
+    let high = 2000;
+    for low in [1999, 2000, 2001] {
+        print!(rt; "| {low} | {high} |")?;
+        match opening(SPIN_DOWN, TargetSpeeds { low, high }).outcome {
+            Ok(()) => println!(rt; " done |")?,
+            Err(refusal) => println!(rt; " refused {} |", refusal.number())?,
         }
     }
+    Ok(())
 }
 
-fn print_targets() {
-    print(b"\n## Target speeds\n\n| low | high | opening a machine |\n|---|---|---|\n");
-    print_target(1999, 2000);
-    print_target(2000, 2000);
-    print_target(2001, 2000);
-}
-
-pub(crate) fn print_spin_down() {
-    print(b"\n# Spin down\n");
-    print_writes();
-    print_runs();
-    print_targets();
+pub(crate) fn print_spin_down(rt: &impl Print) -> io::Result<()> {
+    println!(rt; "\n# Spin down")?;
+    print_writes(rt)?;
+    print_runs(rt)?;
+    print_targets(rt)
 }
