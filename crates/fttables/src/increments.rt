@@ -123,7 +123,8 @@ fn print_resistance(rt: &impl Print, range: SignedRange, target: u8) -> io::Resu
     print_line(rt, cells, ranges, &[0x04, target])
 }
 
-// The line of a range of powers and a target.
+// The line of a range of powers and a target. It is not one with print_inclination: they differ in
+// a field of `Ranges`, which no parameter can name.
 fn print_power(rt: &impl Print, range: SignedRange, target: i16) -> io::Result<()> {
     let cells = format_args!("power | {} | {target}", Ends(range));
     let ranges = Ranges {
