@@ -3,9 +3,9 @@
 use crate::records::number_of;
 use crate::steps::mended;
 use output::first;
+use service::control::Console;
 use service::control::ranges::{HeartRateRange, Ranges, SignedRange, SpeedRange};
 use service::control::spin_down::TargetSpeeds;
-use service::control::Console;
 
 // The target speeds of each machine that is opened here: 10 and 20 km/h.
 pub(crate) const SPEEDS: TargetSpeeds = TargetSpeeds {

@@ -2,8 +2,8 @@
 // and the client that holds control writes a target.
 use crate::clients::{RANGES, REQUEST_CONTROL, SPEEDS, after, joined};
 use record::feature::Feature;
-use service::control::ranges::{HeartRateRange, Ranges, SignedRange, SpeedRange};
 use service::control::Console;
+use service::control::ranges::{HeartRateRange, Ranges, SignedRange, SpeedRange};
 use std::{fmt, io};
 
 // A machine on which the five targets with a range can be set.

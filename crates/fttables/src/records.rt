@@ -89,10 +89,7 @@ pub(crate) fn splitting_from_c(step: u8) -> Option<u8> {
 pub(crate) fn reading(step: u8) -> Option<u8> {
     let kind = mended(step, 1, 0, INDOOR_BIKE);
     let octets = notification(CADENCE);
-    number_of(part_of(
-        kind,
-        first(&octets, usize::from(length_at(step, 2))),
-    ))
+    number_of(part_of(kind, first(&octets, usize::from(length_at(step, 2)))))
 }
 
 // Reads a Feature value, with its length put right.

@@ -1,7 +1,7 @@
 // What to write for a spin down and what comes back, where each call leads a run, and which target
 // speeds a machine can have: as the calls answer.
 use crate::clients::{RANGES, REQUEST_CONTROL, SPEEDS, SUCCESS, after, joined};
-use output::{Octets, first};
+use output::Octets;
 use record::feature::Feature;
 use service::control::counted::Counted;
 use service::control::spin_down::{Run, TargetSpeeds};
@@ -64,12 +64,10 @@ struct Said(Counted);
 
 impl fmt::Display for Said {
     fn fmt<W: fmt::Write>(&self, f: &mut fmt::Formatter<W>) -> fmt::Result {
-        let sent = self.0;
-        if sent.count == 0 {
-            return write!(f, " none");
+        match self.0.octets() {
+            [] => write!(f, " none"),
+            sent => write!(f, "{}", Octets(sent)),
         }
-        let octets = first(&sent.octets, usize::from(sent.count));
-        write!(f, "{}", Octets(octets))
     }
 }
 

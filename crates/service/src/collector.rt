@@ -225,9 +225,7 @@ impl Collection {
     {
         match part_of(self.kind, notification) {
             Err(refusal) => self.refuse(refusal),
-            Ok(part) if self.told.outside(part.groups) => {
-                self.refuse(Refusal::OutsideToldSet)
-            }
+            Ok(part) if self.told.outside(part.groups) => { self.refuse(Refusal::OutsideToldSet) }
             Ok(part) => self.join(part, notification),
         }
     }

@@ -8,9 +8,9 @@ mod show;
 use crate::show::Session;
 use output::Octets;
 use record::feature::Feature;
+use service::control::Console;
 use service::control::ranges::{HeartRateRange, Ranges, SignedRange, SpeedRange};
 use service::control::spin_down::TargetSpeeds;
-use service::control::Console;
 use std::io;
 
 // What this treadmill sends, and what can be set on it: no resistance and no heart rate.

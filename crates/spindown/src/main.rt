@@ -10,9 +10,9 @@ use crate::runs::{coast, fail, finish_at_once, ignore, leave, reset, take_contro
 use crate::show::Session;
 use output::Octets;
 use record::feature::Feature;
+use service::control::Console;
 use service::control::ranges::{HeartRateRange, Ranges, SignedRange, SpeedRange};
 use service::control::spin_down::TargetSpeeds;
-use service::control::Console;
 use std::io;
 
 // What this bike sends, and what can be set on it: spin down alone.
