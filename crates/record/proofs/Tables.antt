@@ -48,13 +48,6 @@ module _ (kind : ℕ) where
       leb_le (length (layout kind)) 20
       (and_l (leb (length (layout kind)) 20) (all field_known (layout kind)) (and_r bits_and_octets count_and_fields (layout_small kind)))
 
-  pub field_below : (i : ℕ) → (get_or (layout kind) i no_row).1 < 31
-  unfolding field_known
-  field_below i =
-      leb_le (suc (get_or (layout kind) i no_row).1) 31
-      (all_at field_known (layout kind) no_row
-      (and_r (leb (length (layout kind)) 20) (all field_known (layout kind)) (and_r bits_and_octets count_and_fields (layout_small kind))) refl i)
-
   pub octets_most : (set : ℕ) → set_length kind set ≤ 64
   octets_most set =
       le_trans (size_named (layout kind) set)
