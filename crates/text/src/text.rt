@@ -1,4 +1,5 @@
-// Writing text into a lent buffer. What lies past the buffer's end is left out but counted, so the same calls also measure a text.
+// Writing text into a lent buffer. What lies past the buffer's end is left out but counted, so the same calls also measure a text; `write!` would
+// stop at the end.
 #![tactic(auto, using(crate::proofs::Writing::writes))]
 
 ghost use Rattle.std.specs.Prelude.{◌≡◌, ◌≤◌, ◌+◌, ◌%◌, [], ◌∷◌};
