@@ -113,15 +113,27 @@ three_below n at s l h =
     let q : 256 ^ (n - 1) ≤ 256 ^ 3 = pow-le-pow_right {n = 256} (lit< tt) {i = n - 1} {j = 3} (omega arith) in
     le_trans p q
 
--- writing no octet, and one octet more: the low one, then the rest after it
+-- writing one octet
+pub placed_one : (x : ℕ) (out : List ℕ) (at : ℕ) → x < 256 → set out at x ≡ placed out at (spelled 1 x)
+unfolding spelled
+placed_one x out at h = let e : x % 256 ≡ x = omega arith in rw e
+
+-- writing one octet more: the low one, then the rest after it
+pub placed_step : (n x : ℕ) (out : List ℕ) (at : ℕ) {mid all : List ℕ} → mid ≡ placed out at (spelled 1 (x % 256)) →
+    all ≡ placed mid (at + 1) (spelled n (x / 256)) → all ≡ placed out at (spelled (suc n) x)
+unfolding spelled
+placed_step n x out at p q = let e : x % 256 % 256 ≡ x % 256 = omega arith in rw (q, p, add-one at, e)
+
+-- writing no octet, and the same for a number of octets that is not 0
 pub placed_none : (x : ℕ) (out : List ℕ) (at : ℕ) → out ≡ placed out at (spelled 0 x)
 unfolding spelled
 placed_none x out at = refl
 
 pub placed_more : (n x : ℕ) (out : List ℕ) (at : ℕ) → (n ≡ 0 → ⊥) → placed (set out at (x % 256)) (at + 1) (spelled (n - 1) (x / 256)) ≡ placed out at (spelled n x)
-unfolding spelled
 placed_more zero x out at h = absurd (h refl)
-placed_more (suc n) x out at h = let e : suc n - 1 ≡ n = omega arith in rw (e, add-one at)
+placed_more (suc n) x out at h =
+    let e : suc n - 1 ≡ n = omega arith in
+    rw e (placed_step n x out at {mid = set out at (x % 256)} (placed_one (x % 256) out at (omega arith)) refl)
 
 -- nothing is written past the end
 pub placed_past : (octets out : List ℕ) {at : ℕ} → length out ≤ at → placed out at octets ≡ out

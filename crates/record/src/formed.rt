@@ -7,7 +7,7 @@ ghost use Rattle.record.specs.Record as RecordSpecs;
 
 use crate::groups::{has, is_known, listed};
 use crate::layout::{CROSS_TRAINER, Row, Width, rows};
-use crate::numbers::{Wire, number_at};
+use crate::numbers::{Wire, number_at, put_number};
 use crate::record::Record;
 
 // The least number that is too large for a width.
@@ -24,7 +24,6 @@ fn limit(width: Width) -> u32
 
 // Whether a row's number fits its width; true if the row's group is not in the set.
 fn row_fits(set: u32, row: Row, numbers: &[u32; 31]) -> bool
-    requires { row.1 < 31 }
     ensures { result ≡ all_fit (named set (row ∷ [])) numbers.now }
 {
     if has(set, row.0) {
@@ -47,11 +46,10 @@ fn all_fits(kind: u8, set: u32, numbers: &[u32; 31]) -> bool
 
 // Sets a row's number to 0 if the row's group is in the set.
 fn clear_row(set: u32, row: Row, numbers: &mut [u32; 31])
-    requires { row.1 < 31 }
     ensures { numbers.new ≡ RecordSpecs.others (named set (row ∷ [])) numbers.old }
 {
     if has(set, row.0) {
-        numbers[row.1 as usize] = 0;
+        put_number(numbers, row.1, 0);
     }
 }
 

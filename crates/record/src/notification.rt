@@ -10,6 +10,7 @@ ghost use Rattle.record.specs.Notification;
 
 use crate::groups::{flags_length, groups_length, has, is_known, listed};
 use crate::layout::{CROSS_TRAINER, Row, rows, width_length};
+use crate::numbers::put_number;
 use crate::octets::number_at;
 use crate::refusal::Refusal;
 
@@ -81,13 +82,13 @@ pub fn part_of(kind: u8, notification: &[u8]) -> Result<Part, Refusal>
 
 // Reads a row's number at an index, if the set names its group; returns the index after it.
 fn read_row(row: Row, set: u32, notification: &[u8], at: usize, numbers: &mut [u32; 31]) -> usize
-    requires { (row.1 < 31) × (at < 256) }
+    requires { at < 256 }
     ensures value { result ≡ at + cond (Groups.has set row.0) (octets_of row.2) 0 }
     ensures numbers_after { numbers.new ≡ cond (Groups.has set row.0) (lib.ListN.set numbers.old row.1 (number (octets_of row.2) (drop at notification.now))) numbers.old }
 {
     if has(set, row.0) {
         let length = width_length(row.2);
-        numbers[row.1 as usize] = number_at(notification, at, length);
+        put_number(numbers, row.1, number_at(notification, at, length));
         return at + length;
     }
     at

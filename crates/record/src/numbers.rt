@@ -1,5 +1,5 @@
 // Records as wire numbers, one unsigned number for each field, and back.
-ghost use Rattle.std.specs.Prelude.{◌≡◌, ◌%◌, ◌^◌, ◌<◌, get_or};
+ghost use Rattle.std.specs.Prelude.{◌≡◌, ◌%◌, ◌^◌, get_or, set};
 ghost use Rattle.record.specs.Octets;
 ghost use Rattle.record.specs.Record.{wire, wired, of_wire};
 
@@ -58,32 +58,37 @@ pub fn numbers_of(r: Record) -> [u32; 31]
     ]
 }
 
-// The number of a field.
+// The number of a field; 0 if there is no such field.
 pub(crate) fn number_at(numbers: &[u32; 31], field: u8) -> u32
-    requires { field < 31 }
     ensures { result ≡ get_or numbers.now field 0 }
 {
+    numbers.get(field as usize).copied().unwrap_or(0)
+}
+
+// Stores the number of a field, if there is such a field.
+pub(crate) fn put_number(numbers: &mut [u32; 31], field: u8, x: u32)
+    ensures { numbers.new ≡ set numbers.old field x }
+{
     let i = field as usize;
-    numbers[i]
+    if i < numbers.len() {
+        numbers[i] = x;
+    }
 }
 
 // The number of a field, truncated to a u8, a u16 and an i16.
 fn octet_at(numbers: &[u32; 31], field: u8) -> u8
-    requires { field < 31 }
     ensures { result ≡ get_or numbers.now field 0 % 2 ^ 8 }
 {
     (number_at(numbers, field) % 256) as u8
 }
 
 fn word_at(numbers: &[u32; 31], field: u8) -> u16
-    requires { field < 31 }
     ensures { result ≡ get_or numbers.now field 0 % 2 ^ 16 }
 {
     (number_at(numbers, field) % 65536) as u16
 }
 
 fn signed_at(numbers: &[u32; 31], field: u8) -> i16
-    requires { field < 31 }
     ensures { result ≡ Octets.signed (get_or numbers.now field 0 % 2 ^ 16) }
 {
     signed(word_at(numbers, field))

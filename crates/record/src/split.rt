@@ -11,7 +11,7 @@ ghost use Rattle.record.specs.Split;
 use crate::formed::formed;
 use crate::groups::{BITS, flags_length, group_length, groups_length, has, is_known};
 use crate::layout::{Row, rows, width_length};
-use crate::numbers::Wire;
+use crate::numbers::{Wire, number_at};
 use crate::octets::put_number;
 use crate::record::Record;
 use crate::refusal::Refusal;
@@ -110,13 +110,13 @@ fn cut_part(wire: &Wire, payload: usize, part: usize) -> Cut
 
 // Writes a row's number at an index, if the set names its group; returns the index after it.
 fn put_row(row: Row, set: u32, numbers: &[u32; 31], out: &mut [u8], at: usize) -> usize
-    requires { (row.1 < 31) × (at < 256) }
+    requires { at < 256 }
     ensures value { result ≡ at + cond (Groups.has set row.0) (octets_of row.2) 0 }
     ensures out_after { out.new ≡ placed out.old at (cond (Groups.has set row.0) (spelled (octets_of row.2) (get_or numbers.now row.1 0)) []) }
 {
     if has(set, row.0) {
         let length = width_length(row.2);
-        put_number(out, at, length, numbers[row.1 as usize]);
+        put_number(out, at, length, number_at(numbers, row.1));
         return at + length;
     }
     at
@@ -124,7 +124,7 @@ fn put_row(row: Row, set: u32, numbers: &[u32; 31], out: &mut [u8], at: usize) -
 
 // Writes a part's flags.
 fn put_flags(kind: u8, set: u32, direction: u8, out: &mut [u8])
-    requires { (set < 32768) × (direction < 2) }
+    requires { set < 32768 }
     ensures { out.new ≡ placed out.old 0 (spelled (flags_octets kind) (flags set direction)) }
 {
     let word = set + 1 - set % 2 * 2 + (direction as u32) * 32768;
@@ -143,7 +143,7 @@ fn put_rows(kind: u8, set: u32, numbers: &[u32; 31], out: &mut [u8])
 
 // Writes a part of a record: its flags, and the groups of its set.
 fn put_part(wire: &Wire, set: u32, out: &mut [u8])
-    requires { (set < 32768) × (wire.now.direction < 2) }
+    requires { set < 32768 }
     ensures { out.new ≡ placed out.old 0 (Split.octets wire.now.kind set wire.now.direction wire.now.numbers) }
 {
     put_flags(wire.kind, set, wire.direction, out);
@@ -152,7 +152,7 @@ fn put_part(wire: &Wire, set: u32, out: &mut [u8])
 
 // Writes a part of a well-formed record at a payload that is in range; refuses with 15, then 14.
 fn write_part(wire: &Wire, payload: usize, part: usize, out: &mut [u8]) -> Result<Extent, Refusal>
-    requires { (wire.now.groups < 32767) × (wire.now.direction < 2) × (20 ≤ payload) }
+    requires { (wire.now.groups < 32767) × (20 ≤ payload) }
     ensures result_value { meant result ≡ extent_of wire.now.kind wire.now.groups wire.now.direction wire.now.numbers payload part (length out.old) }
     ensures out_after { out.new ≡ after (extent_of wire.now.kind wire.now.groups wire.now.direction wire.now.numbers payload part (length out.old)) (over out.old (Split.octets wire.now.kind (set_at wire.now.kind wire.now.groups payload part) wire.now.direction wire.now.numbers)) out.old }
 {

@@ -1,12 +1,8 @@
 use mathlib.Core.Path.{sym, ◌∙◌}
 use Rattle.std.proofs.Common.{rules}
 use Rattle.record.specs.Layout.{layout}
-use Rattle.record.proofs.Tables.{field_below}
 use Rattle.record.proofs.Turns.{fit_turn, fit_end}
 use Rattle.record.proofs.formed.all_fits.Goals as goal
-
-pub row_fits-requires : goal.row_fits-requires
-row_fits-requires c = rw c.rows-row-items.ensures (field_below _ _)
 
 pub returns-then-not-row_fits : goal.returns-then-not-row_fits
 returns-then-not-row_fits c = let a = c.args in

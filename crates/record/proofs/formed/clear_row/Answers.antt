@@ -6,7 +6,7 @@ use Rattle.record.proofs.formed.clear_row.Goals as goal
 
 pub returns-then-has : goal.returns-then-has
 unfolding named others
-returns-then-has c = rw (sym c.has.ensures ∙ c.if-has.true)
+returns-then-has c = rw (sym c.has.ensures ∙ c.if-has.true, c.put_number.ensures)
 
 pub returns-else-has : goal.returns-else-has
 unfolding named others

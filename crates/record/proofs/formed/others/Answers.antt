@@ -1,12 +1,8 @@
 use mathlib.Core.Path.{sym, ◌∙◌}
 use Rattle.std.proofs.Common.{rules}
 use Rattle.record.specs.Layout.{layout}
-use Rattle.record.proofs.Tables.{field_below}
 use Rattle.record.proofs.Turns.{others_turn, others_end}
 use Rattle.record.proofs.formed.others.Goals as goal
-
-pub clear_row-requires : goal.clear_row-requires
-clear_row-requires c = rw c.rows-row-items.ensures (field_below _ _)
 
 pub loop-row-preserved : goal.loop-row-preserved
 loop-row-preserved c = let a = c.args in

@@ -7,7 +7,7 @@ use Rattle.record.specs.Layout.{layout, octets_of, no_row}
 use Rattle.record.specs.Groups.{has, named, flags_octets}
 use Rattle.record.specs.Notification.{read_into, values}
 use Rattle.record.proofs.Reading.{read_next, read_none, taken_most}
-use Rattle.record.proofs.Tables.{field_below, rows_most, flags_most, width_most}
+use Rattle.record.proofs.Tables.{rows_most, flags_most, width_most}
 use Rattle.record.proofs.notification.read_rows.Goals as goal
 
 pub loop-row-init : goal.loop-row-init
@@ -22,7 +22,7 @@ pub read_row-at-requires : goal.read_row-at-requires
 read_row-at-requires c = let kind = c.args.kind in
     let n : length (layout kind) ≤ 20 = rows_most kind in
     let i : c.loop-row.row-index < length (layout kind) = rw (← c.rows-row-items.ensures) c.loop-row-test.true in
-    (rw c.rows-row-items.ensures (field_below kind c.loop-row.row-index), omega arith)
+    omega arith
 
 pub loop-row-preserved : goal.loop-row-preserved
 loop-row-preserved c = let a = c.args in

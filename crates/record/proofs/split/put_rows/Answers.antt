@@ -7,14 +7,14 @@ use Rattle.record.specs.Layout.{layout, octets_of, no_row}
 use Rattle.record.specs.Groups.{has}
 use Rattle.record.proofs.Reading.{taken_most}
 use Rattle.record.proofs.Writing.{write_next, write_none}
-use Rattle.record.proofs.Tables.{field_below, rows_most, width_most}
+use Rattle.record.proofs.Tables.{rows_most, width_most}
 use Rattle.record.proofs.split.put_rows.Goals as goal
 
 pub put_row-at-requires : goal.put_row-at-requires
 put_row-at-requires c = let kind = c.args.kind in
     let n : length (layout kind) ≤ 20 = rows_most kind in
     let i : c.loop-row.row-index < length (layout kind) = rw (← c.rows-row-items.ensures) c.loop-row-test.true in
-    (rw c.rows-row-items.ensures (field_below kind c.loop-row.row-index), omega arith)
+    omega arith
 
 pub loop-row-preserved : goal.loop-row-preserved
 loop-row-preserved c = let a = c.args in

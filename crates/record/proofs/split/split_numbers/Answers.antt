@@ -9,7 +9,7 @@ use Rattle.record.specs.Groups.{known}
 use Rattle.record.specs.Record.{formed}
 use Rattle.record.specs.Split.{payload_known, split_wire}
 use Rattle.record.proofs.Tests.{and_l}
-use Rattle.record.proofs.Records.{formed_listed, formed_way}
+use Rattle.record.proofs.Records.{formed_listed}
 use Rattle.record.proofs.Parts.{listed_groups_low, listed_groups_even}
 use Rattle.record.proofs.split.split_numbers.Goals as goal
 
@@ -45,7 +45,7 @@ write_part-requires c = let a = c.args in
     let l : a.wire.now.groups < 32768 = listed_groups_low a.wire.now.kind a.wire.now.groups g in
     let z : a.wire.now.groups % 2 ≡ 0 = listed_groups_even a.wire.now.kind a.wire.now.groups g in
     let p : 20 ≤ a.payload = leb-true 20 a.payload (and_l (leb 20 a.payload) (leb a.payload 512) ((sym c.is_payload.ensures ∙ c.if-not-is_payload.false))) in
-    (omega arith, formed_way a.wire.now.kind a.wire.now.groups a.wire.now.direction a.wire.now.numbers ((sym c.formed.ensures ∙ c.if-not-formed.false)), p)
+    (omega arith, p)
 
 pub returns-clause-result_value : goal.returns-clause-result_value
 unfolding split_wire

@@ -34,7 +34,7 @@ returns-then-out-length-clause-out_after c = let w = c.args.wire.now in
 pub put_part-requires : goal.put_part-requires
 put_part-requires c = let w = c.args.wire.now in
     let m : set_at w.kind w.groups c.args.payload c.args.part ≤ 1 + w.groups = cut_most w.kind (c.args.payload - flags_octets w.kind) 16 w.groups c.args.part in
-    (rw c.cut_part-cut.ensures.set_value (omega arith), omega arith)
+    rw c.cut_part-cut.ensures.set_value (omega arith)
 
 pub returns-clause-result_value : goal.returns-clause-result_value
 returns-clause-result_value c = let w = c.args.wire.now in
