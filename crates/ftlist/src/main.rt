@@ -44,13 +44,9 @@ fn show_listing<W: Write>(target: &mut W, capture: &[u8]) -> io::Result<()> {
     let mut walk = begin();
     while !walk.ended {
         let mut lines = [0u8; LONGEST_LINES];
-        let mut sheet = Sheet {
-            out: &mut lines,
-            at: 0,
-        };
+        let mut sheet = Sheet::new(&mut lines);
         walk = step(&mut sheet, walk, capture);
-        let length = sheet.at;
-        target.write_all(&lines[..length])?;
+        target.write_all(sheet.as_bytes())?;
     }
     Ok(())
 }

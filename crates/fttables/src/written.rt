@@ -37,10 +37,7 @@ impl Written {
 impl fmt::Display for Written {
     fn fmt<W: fmt::Write>(&self, f: &mut fmt::Formatter<W>) -> fmt::Result {
         let mut text = [0u8; LONGEST];
-        let mut sheet = Sheet {
-            out: &mut text,
-            at: 0,
-        };
+        let mut sheet = Sheet::new(&mut text);
         self.put(&mut sheet);
         let length = sheet.at;
         write!(f, "{}", Ascii(first(&text, length)))

@@ -93,10 +93,7 @@ pub(crate) fn finish(rt: &impl Print, ran: Result<(), Stop>) -> io::Result<()> {
 
 fn show_refused(rt: &impl Print, refusal: Refusal) -> io::Result<()> {
     let mut lines = [0u8; LONGEST_LINES];
-    let mut sheet = Sheet {
-        out: &mut lines,
-        at: 0,
-    };
+    let mut sheet = Sheet::new(&mut lines);
     put_refused(&mut sheet, refusal);
     let length = sheet.at;
     print!(rt; "{}", Ascii(first(&lines, length)))
@@ -104,10 +101,7 @@ fn show_refused(rt: &impl Print, refusal: Refusal) -> io::Result<()> {
 
 fn show_record(rt: &impl Print, record: Record) -> io::Result<()> {
     let mut lines = [0u8; LONGEST_LINES];
-    let mut sheet = Sheet {
-        out: &mut lines,
-        at: 0,
-    };
+    let mut sheet = Sheet::new(&mut lines);
     put_record(&mut sheet, 1, record);
     let length = sheet.at;
     print!(rt; "{}", Ascii(first(&lines, length)))
