@@ -26,6 +26,7 @@ fn read_some<R: Read>(source: &mut R, buffer: &mut [u8], at: usize) -> io::Resul
 fn read_input<R: Read>(source: &mut R, buffer: &mut [u8]) -> io::Result<usize>
     ensures { IfOk result (λ n. n ≤ length buffer.new) }
 {
+    // no `for`: how many reads the input takes is known only at its end
     let mut filled = 0;
     while filled < buffer.len() {
         let more = read_some(source, buffer, filled)?;
@@ -39,6 +40,7 @@ fn read_input<R: Read>(source: &mut R, buffer: &mut [u8]) -> io::Result<usize>
 
 // Lists a capture, until the listing ends or a write fails.
 fn show_listing<W: Write>(target: &mut W, capture: &[u8]) -> io::Result<()> {
+    // no `for`: how many steps there are is known only at the end
     let mut walk = begin();
     while !walk.ended {
         let mut lines = [0u8; LONGEST_LINES];

@@ -31,7 +31,8 @@ pub struct Listing {
     pub number: u32,
 }
 
-// How far a listing has come: its state, its position in the capture, and whether it has ended. At position 0 it has not begun.
+// How far a listing has come: its state, its position in the capture, and whether it has ended. At position 0 it has not begun. A flag and
+// not an enum: a walk that has ended keeps its state and position, as `ends` says.
 #[derive(Clone, Copy)]
 pub struct Walk {
     pub listing: Listing,

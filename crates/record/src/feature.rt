@@ -23,7 +23,8 @@ fn has_bit(word: u32, bit: u8) -> bool
 }
 
 impl Feature {
-    // The bits of the features.
+    // The bits of the features. Numbers and not an enum: `has_feature` and `has_target` take any bit, and a constant Feature value is
+    // written as `1 << Feature::PACE`, where no function can be called.
     pub const AVERAGE_SPEED: u8 = 0;
 
     pub const CADENCE: u8 = 1;

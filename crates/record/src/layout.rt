@@ -4,7 +4,8 @@ ghost use Rattle.std.specs.Prelude.{◌≡◌, length, get_or};
 ghost use Rattle.record.specs.Layout.{octets_of, no_row, treadmill, cross_trainer, step_climber, stair_climber, rower, indoor_bike};
 ghost use Rattle.record.specs.Layout;
 
-// The kinds of gym machine.
+// The kinds of gym machine. Numbers and not an enum: every call takes any number as a kind, and answers 11, 0 or no rows itself
+// where it is none of these.
 pub const TREADMILL: u8 = 1;
 
 pub const CROSS_TRAINER: u8 = 2;
@@ -17,7 +18,8 @@ pub const ROWER: u8 = 5;
 
 pub const INDOOR_BIKE: u8 = 6;
 
-// The fields: each is an index into a record's 31 wire numbers.
+// The fields: each is an index into a record's 31 wire numbers. Numbers and not an enum: a row may be made with any number, and the
+// names in `text` are given for any number.
 pub const SPEED: u8 = 0;
 
 pub const FLOORS: u8 = 1;

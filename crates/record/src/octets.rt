@@ -17,7 +17,7 @@ pub(crate) fn number_at(s: &[u8], at: usize, octets: usize) -> u32
     s[at] as u32 + 256 * number_at(s, at + 1, octets - 1)
 }
 
-// The octet at an index.
+// The octet at an index. This and the next three are `number_at`, each as the type that its number of octets fits.
 pub fn u8_at(s: &[u8], at: usize) -> u8
     ensures { result ≡ number 1 (drop at s.now) }
 {

@@ -58,7 +58,8 @@ pub struct StepRates {
     pub average: u16,
 }
 
-// "A record is a kind, a set of optional groups as the bits above, a direction and the field values."
+// "A record is a kind, a set of optional groups as the bits above, a direction and the field values." Kind and direction are numbers
+// and not enums: a record with any other number is one that is not well formed, which the calls refuse.
 #[derive(Clone, Copy, PartialEq, Eq, Debug)]
 pub struct Record {
     pub kind: u8,

@@ -1,6 +1,9 @@
 -- At most one position, and one content of what is lent, satisfies a contract: for each public function, over the contract itself.
 use Rattle.record.proofs.Once.{LeftOnce}
-use Rattle.text.proofs.Once.{put_once}
+use mathlib.Core.Path.{sym, ◌∙◌}
+use Rattle.text.proofs.Once.{put_once, LentOnce}
+use Rattle.reference.proofs.words.width_name.Reads as width_name
+use Rattle.reference.proofs.tables.kind_name.Reads as kind_name
 use Rattle.reference.proofs.words.put_width.Reads as put_width
 use Rattle.reference.proofs.words.put_group.Reads as put_group
 use Rattle.reference.proofs.flags.put_flags.Reads as put_flags
@@ -30,3 +33,6 @@ tables_once = (
   (λ κs a x y s t p q. (put_once p q).0, λ κs a x y s t p q. (put_once p q).1),
   (λ κs a x y s t p q. (put_once p q).0, λ κs a x y s t p q. (put_once p q).1),
 )
+
+pub names_once : LentOnce width_name.Post (λ κs r. r.now) × LentOnce kind_name.Post (λ κs r. r.now)
+names_once = (λ κs a x y s t p q. p ∙ sym q, λ κs a x y s t p q. p ∙ sym q)

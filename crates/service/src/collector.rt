@@ -28,14 +28,16 @@ pub struct Collection {
     pub numbers: [u32; 31],
 }
 
-// The answer to an opening, which may be refused, and a collection that holds nothing.
+// The answer to an opening, which may be refused, and a collection that holds nothing: a struct and not a `Result` with the
+// collection in it, since a refused opening gives the collection too.
 #[derive(Clone, Copy)]
 pub struct Opened {
     pub answer: Result<(), Refusal>,
     pub collection: Collection,
 }
 
-// What a collection answers to a notification. "Each answer says whether held groups were dropped unused".
+// What a collection answers to a notification. "Each answer says whether held groups were dropped unused". Three cases, so neither
+// an `Option` nor a `Result`.
 #[derive(Clone, Copy)]
 pub enum Collected {
     Waiting { dropped: bool },

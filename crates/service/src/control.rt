@@ -26,7 +26,7 @@ use crate::control::spin_down::{TargetSpeeds, feed};
 use record::feature::Feature;
 use record::refusal::Refusal;
 
-// Whether a client is connected, and whether its indications are on.
+// Whether a client is connected, and whether its indications are on: two flags, as the calls turn them.
 #[derive(Clone, Copy)]
 pub struct Client {
     pub connected: bool,
@@ -41,7 +41,8 @@ pub struct Console {
     pub awaited: Option<u8>,
 }
 
-// The reply to a call: whether it was done or refused, the response octets, the status octets (either may be empty), and the console after it.
+// The reply to a call: whether it was done or refused, the response octets, the status octets (either may be empty), and the console after it:
+// a struct with a `Result` in it, since a refused call gives its console too.
 #[derive(Clone, Copy)]
 pub struct Reply {
     pub outcome: Result<(), Refusal>,

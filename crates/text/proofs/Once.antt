@@ -6,6 +6,8 @@ use Rattle.record.proofs.Once.{LeftOnce}
 use Rattle.text.specs.Sheet.{Put}
 use Rattle.text.specs.Text.{Wrote}
 use Rattle.text.specs.declared.text.Sheet.{Sheet}
+use Rattle.text.proofs.text.Sheet.new.Reads as new
+use Rattle.text.proofs.text.Sheet.as_bytes.Reads as as_bytes
 use Rattle.text.proofs.text.Sheet.put_byte.Reads as put_byte
 use Rattle.text.proofs.text.Sheet.put_bytes.Reads as put_bytes
 use Rattle.text.proofs.text.Sheet.put_decimal.Reads as put_decimal
@@ -13,6 +15,12 @@ use Rattle.text.proofs.text.Sheet.put_line.Reads as put_line
 use Rattle.text.proofs.text.Sheet.put_hex.Reads as put_hex
 use Rattle.text.proofs.names.put_name.Reads as put_name
 use Rattle.text.proofs.names.put_field.Reads as put_field
+use Rattle.text.proofs.names.field_name.Reads as field_name
+
+module _ {K : Type 0} {A R S : K → Type 0} (Post : (κs : K) → A κs → R κs → S κs → Type 0) where
+  -- what two replies that meet a contract at the same arguments lend is equal
+  abbrev pub LentOnce : {B : Type 0} → ((κs : K) → R κs → B) → Type 0
+  LentOnce lent = (κs : K) (a : A κs) (x y : R κs) (s t : S κs) → Post κs a x s → Post κs a y t → lent κs x ≡ lent κs y
 
 -- the text and the position determine the next position and the buffer's content
 pub wrote_once : (out : List ℕ) (at : ℕ) (text left left' : List ℕ) (next next' : ℕ) → Wrote out at text left next → Wrote out at text left' next' →
@@ -38,4 +46,13 @@ texts_once = (
   (λ κs a x y s t p q. (put_once p q).0, λ κs a x y s t p q. (put_once p q).1),
   (λ κs a x y s t p q. (put_once p q).0, λ κs a x y s t p q. (put_once p q).1),
   (λ κs a x y s t p q. (put_once p q).0, λ κs a x y s t p q. (put_once p q).1),
+)
+
+pub lent_once :
+    (LentOnce new.Post (λ κs r. r.at) × LentOnce new.Post (λ κs r. r.out.now)) × LentOnce as_bytes.Post (λ κs r. r.now) ×
+    LentOnce field_name.Post (λ κs r. r.now)
+lent_once = (
+  (λ κs a x y s t p q. p.1.1 ∙ sym q.1.1, λ κs a x y s t p q. p.1.0 ∙ sym q.1.0),
+  λ κs a x y s t p q. p ∙ sym q,
+  λ κs a x y s t p q. p ∙ sym q,
 )

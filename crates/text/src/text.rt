@@ -1,7 +1,8 @@
-// Writing text into a lent buffer. What lies past the buffer's end is left out but counted, so the same calls also measure a text.
+// Writing text into a lent buffer. What lies past the buffer's end is left out but counted, so the same calls also measure a text; `write!` would
+// stop at the end.
 #![tactic(auto, using(crate::proofs::Writing::writes))]
 
-ghost use Rattle.std.specs.Prelude.{◌≡◌, ◌≤◌, ◌+◌, ◌%◌, [], ◌∷◌};
+ghost use Rattle.std.specs.Prelude.{◌≡◌, ◌≤◌, ◌+◌, ◌%◌, [], ◌∷◌, take};
 ghost use Rattle.text.specs.Text.{top, decimal, hex_digit, hex, line};
 
 // The octet that ends a line.
@@ -33,8 +34,29 @@ fn hex_digit(n: u8) -> u8
     55 + d
 }
 
+impl<'a> Sheet<'a> {
+    // A sheet at the beginning of a buffer.
+    pub fn new(out: &'a mut [u8]) -> Sheet<'a>
+        ensures same_reference { result.out.ghost_name ≡ out.entry.ghost_name }
+        ensures octets { result.out.now ≡ out.old }
+        ensures position { result.at ≡ 0 }
+    {
+        Sheet { out, at: 0 }
+    }
+}
+
 impl Sheet<'_> {
     ghost use Rattle.text.specs.Sheet.{Put};
+
+    // What was written so far, as far as the buffer goes.
+    pub fn as_bytes(&self) -> &[u8]
+        ensures { result.now ≡ take self.now.at self.now.out.now }
+    {
+        if self.out.len() < self.at {
+            return self.out;
+        }
+        &self.out[..self.at]
+    }
 
     pub fn put_byte(&mut self, b: u8)
         ensures { Put self.old (b ∷ []) self.new }

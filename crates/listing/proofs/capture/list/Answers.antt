@@ -11,7 +11,7 @@ pub returns-then-out-length-clause-out_after : goal.returns-then-out-length-clau
 returns-then-out-length-clause-out_after c = let it = too_short (c.args.out.now) ((listing c.args.capture.now)) c.list_length-length.result c.list_length-length.ensures (omega arith) in it.1
 
 pub returns-clause-result_value : goal.returns-clause-result_value
-returns-clause-result_value c = let it = roomy_enough (c.args.out.now) ((listing c.args.capture.now)) c.list_length-length.result c.list_length-length.ensures (omega arith) (omega arith) c.put_listing.ensures.wrote in it.0
+returns-clause-result_value c = let it = roomy_enough (c.args.out.now) ((listing c.args.capture.now)) c.list_length-length.result c.list_length-length.ensures c.new.ensures.octets c.new.ensures.position (omega arith) (omega arith) c.put_listing.ensures in it.0
 
 pub returns-clause-out_after : goal.returns-clause-out_after
-returns-clause-out_after c = let it = roomy_enough (c.args.out.now) ((listing c.args.capture.now)) c.list_length-length.result c.list_length-length.ensures (omega arith) (omega arith) c.put_listing.ensures.wrote in let e = it.1 in grind arith
+returns-clause-out_after c = let it = roomy_enough (c.args.out.now) ((listing c.args.capture.now)) c.list_length-length.result c.list_length-length.ensures c.new.ensures.octets c.new.ensures.position (omega arith) (omega arith) c.put_listing.ensures in let e = it.1 in grind arith

@@ -1,6 +1,6 @@
 -- `put_bytes` meets its contract, octet by octet. Assumes nothing.
 use native.Mathlib.Omega.{arith}
-use mathlib.Core.Path.{refl, ◌∙◌}
+use mathlib.Core.Path.{◌∙◌}
 use Rattle.text.proofs.Writing.{put, put_nothing, then_next}
 use Rattle.text.proofs.text.Sheet.put_bytes.Goals as goal
 
