@@ -4,13 +4,14 @@ use mathlib.Core.Path.{◌≡◌, refl, sym, ap}
 use mathlib.Core.List.{List}
 use Rattle.record.specs.Answer.{Answer}
 use Rattle.record.specs.Refusal.{number_of}
-use Rattle.record.proofs.Once.{Once, same, number_same, never}
+use Rattle.record.proofs.Once.{Once, LentOnce, same, number_same, never}
 use Rattle.record.proofs.RefusalLaws.{number_once}
 use Rattle.service.specs.declared.control.Console.{Console}
 use Rattle.std.specs.Prelude.{Result, Ok, Err}
 use Rattle.record.specs.declared.refusal.Refusal.{Refusal}
 use Rattle.service.specs.declared.control.Reply.{Reply}
 use Rattle.service.specs.Control.Replies.{Sent, meant_outcome, Says}
+use Rattle.service.proofs.control.counted.Counted.octets.Reads as octets
 use Rattle.service.proofs.control.Console.open.Reads as open_reads
 use Rattle.service.proofs.control.Console.connect.Reads as connect
 use Rattle.service.proofs.control.Console.disconnect.Reads as disconnect
@@ -60,3 +61,7 @@ setting_once κs a x y s t = same
 -- the table of op codes, their parameters, and the numbers of the results
 pub tables_once : Once op_code.Post × Once length.Post × Once count.Post × Once width.Post × Once number.Post
 tables_once = (λ κs a x y s t. same, λ κs a x y s t. same, λ κs a x y s t. same, λ κs a x y s t. same, λ κs a x y s t. same)
+
+-- the octets that count are lent, so they are compared
+pub octets_once : LentOnce octets.Post (λ κs r. r.now)
+octets_once κs a x y s t = same

@@ -2,7 +2,7 @@
 use Prim.Native.Nat.{ℕ}
 use mathlib.Core.Path.{◌≡◌, sym, ◌∙◌}
 use mathlib.Core.List.{List}
-use Rattle.record.proofs.Once.{LeftOnce}
+use Rattle.record.proofs.Once.{LentOnce, LeftOnce}
 use Rattle.text.specs.Sheet.{Put}
 use Rattle.text.specs.Text.{Wrote}
 use Rattle.text.specs.declared.text.Sheet.{Sheet}
@@ -16,11 +16,6 @@ use Rattle.text.proofs.text.Sheet.put_hex.Reads as put_hex
 use Rattle.text.proofs.names.put_name.Reads as put_name
 use Rattle.text.proofs.names.put_field.Reads as put_field
 use Rattle.text.proofs.names.field_name.Reads as field_name
-
-module _ {K : Type 0} {A R S : K → Type 0} (Post : (κs : K) → A κs → R κs → S κs → Type 0) where
-  -- what two replies that meet a contract at the same arguments lend is equal
-  abbrev pub LentOnce : {B : Type 0} → ((κs : K) → R κs → B) → Type 0
-  LentOnce lent = (κs : K) (a : A κs) (x y : R κs) (s t : S κs) → Post κs a x s → Post κs a y t → lent κs x ≡ lent κs y
 
 -- the text and the position determine the next position and the buffer's content
 pub wrote_once : (out : List ℕ) (at : ℕ) (text left left' : List ℕ) (next next' : ℕ) → Wrote out at text left next → Wrote out at text left' next' →
