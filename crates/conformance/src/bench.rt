@@ -104,14 +104,6 @@ fn is_status(told: &[u8], sent: &[u8], status: Option<u8>) -> bool {
     }
 }
 
-// The number of a refusal, 0 for none.
-fn refusal_of(outcome: Result<(), Refusal>) -> u8 {
-    match outcome {
-        Ok(()) => 0,
-        Err(refusal) => refusal.number(),
-    }
-}
-
 // A console that is opened, its client connected with indications on, after writes that are each confirmed.
 fn console_after(before: Before) -> Console {
     let mut console = Console::open(&FEATURE, RANGES, SPEEDS).console;
@@ -189,10 +181,10 @@ impl Bench {
         print!(rt; " flywheel {speed} status{}", Octets(told))
     }
 
-    // A write that must be refused with this number.
+    // A write that must be refused with this number; prints the number, 0 for none.
     pub(crate) fn refused(&mut self, rt: &impl Print, sent: &[u8], number: u8) -> io::Result<()> {
         let reply = self.console.write(0, sent);
-        let found = refusal_of(reply.outcome);
+        let found = reply.outcome.err().map_or(0, Refusal::number);
         self.go_on(reply.console, found == number);
         print!(rt; " sent{} refused {found}", Octets(sent))
     }

@@ -9,8 +9,9 @@ use std::fmt;
 // More steps than any call has refusals.
 const STEPS: u8 = 9;
 
-// A call: the number of the refusal that it gives at a step, as long as it refuses; what follows
-// its refusals in their order; and what a refusal leaves.
+// A call: the number of the refusal that it gives at a step, as long as it refuses (no `Refusal`,
+// since a call from C and a line of a listing give the number alone); what follows its refusals in
+// their order; and what a refusal leaves.
 #[derive(Clone, Copy)]
 pub(crate) struct Call {
     pub(crate) name: &'static str,
