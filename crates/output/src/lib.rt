@@ -47,7 +47,8 @@ impl fmt::Display for Holder {
     }
 }
 
-// The first `length` octets of a buffer; all of it if it has fewer.
+// The first `length` octets of a buffer; all of it if it has fewer. A call that writes to a lent buffer gives a length, as document 01 has it,
+// and no slice of the buffer.
 pub fn first(buffer: &[u8], length: usize) -> &[u8]
     ensures { result.now ≡ take length buffer.now }
 {

@@ -255,8 +255,5 @@ pub fn row_count(kind: u8) -> usize
 pub fn row_of(kind: u8, i: usize) -> Row
     ensures { result ≡ get_or (Layout.layout kind) i no_row }
 {
-    match rows(kind).get(i) {
-        Some(row) => *row,
-        None => NO_ROW,
-    }
+    rows(kind).get(i).copied().unwrap_or(NO_ROW)
 }

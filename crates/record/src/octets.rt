@@ -59,7 +59,8 @@ pub fn s16_at(s: &[u8], at: usize) -> i16
     signed(u16_at(s, at))
 }
 
-// Writes the low octets of a number, as many as are asked for, from an index on.
+// Writes the low octets of a number, as many as are asked for, from an index on. Buffer and index are two parameters and no `Sheet`, which
+// crate `text` has, above this one.
 #[tactic(auto, using(crate::proofs::OctetLaws::placed_past))]
 pub(crate) fn put_number(out: &mut [u8], at: usize, octets: usize, x: u32)
     ensures { out.new ≡ placed out.old at (spelled octets x) }

@@ -108,8 +108,8 @@ fn cut_part(wire: &Wire, payload: usize, part: usize) -> Cut
     cut_at(wire.kind, wire.groups, room, part)
 }
 
-// Writes a row's number at an index, if the set names its group; returns the index after it. Buffer and index are two parameters and no
-// `Sheet`, which crate `text` has, above this one.
+// Writes a row's number at an index, if the set names its group; returns the index after it. Buffer and index are as those of
+// `put_number`.
 fn put_row(row: Row, set: u32, numbers: &[u32; 31], out: &mut [u8], at: usize) -> usize
     requires { at < 256 }
     ensures value { result ≡ at + cond (Groups.has set row.0) (octets_of row.2) 0 }

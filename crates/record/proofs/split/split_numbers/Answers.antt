@@ -1,13 +1,10 @@
 -- `split_numbers` meets its contract: each return rewrites with the tests that led there. Assumes nothing.
 use Prim.Native.Nat.{◌≤◌, ◌<◌, ◌%◌}
 use mathlib.Core.Path.{◌≡◌, refl, sym, ◌∙◌}
-use mathlib.Core.Bool.{false}
 use native.Mathlib.Omega.{arith}
 use borrow.Author.Tests.{leb-true}
 use lib.Dec.{leb}
-use Rattle.record.specs.Groups.{known}
-use Rattle.record.specs.Record.{formed}
-use Rattle.record.specs.Split.{payload_known, split_wire}
+use Rattle.record.specs.Split.{split_wire}
 use Rattle.record.proofs.Tests.{and_l}
 use Rattle.record.proofs.Records.{formed_listed}
 use Rattle.record.proofs.Parts.{listed_groups_low, listed_groups_even}
@@ -15,29 +12,27 @@ use Rattle.record.proofs.split.split_numbers.Goals as goal
 
 pub returns-then-not-is_known-clause-result_value : goal.returns-then-not-is_known-clause-result_value
 unfolding split_wire
-returns-then-not-is_known-clause-result_value c = let k : known c.args.wire.now.kind ≡ false = sym c.is_known.ensures ∙ c.if-not-is_known.true in rw k refl
+returns-then-not-is_known-clause-result_value c = rw (sym c.is_known.ensures ∙ c.if-not-is_known.true) refl
 
 pub returns-then-not-is_known-clause-out_after : goal.returns-then-not-is_known-clause-out_after
 unfolding split_wire
-returns-then-not-is_known-clause-out_after c = let k : known c.args.wire.now.kind ≡ false = sym c.is_known.ensures ∙ c.if-not-is_known.true in rw k refl
+returns-then-not-is_known-clause-out_after c = rw (sym c.is_known.ensures ∙ c.if-not-is_known.true) refl
 
 pub returns-then-not-is_payload-clause-result_value : goal.returns-then-not-is_payload-clause-result_value
 unfolding split_wire
-returns-then-not-is_payload-clause-result_value c = let p : payload_known c.args.payload ≡ false = sym c.is_payload.ensures ∙ c.if-not-is_payload.true in rw ((sym c.is_known.ensures ∙ c.if-not-is_known.false), p) refl
+returns-then-not-is_payload-clause-result_value c = rw ((sym c.is_known.ensures ∙ c.if-not-is_known.false), (sym c.is_payload.ensures ∙ c.if-not-is_payload.true)) refl
 
 pub returns-then-not-is_payload-clause-out_after : goal.returns-then-not-is_payload-clause-out_after
 unfolding split_wire
-returns-then-not-is_payload-clause-out_after c = let p : payload_known c.args.payload ≡ false = sym c.is_payload.ensures ∙ c.if-not-is_payload.true in rw ((sym c.is_known.ensures ∙ c.if-not-is_known.false), p) refl
+returns-then-not-is_payload-clause-out_after c = rw ((sym c.is_known.ensures ∙ c.if-not-is_known.false), (sym c.is_payload.ensures ∙ c.if-not-is_payload.true)) refl
 
 pub returns-then-not-formed-clause-result_value : goal.returns-then-not-formed-clause-result_value
 unfolding split_wire
-returns-then-not-formed-clause-result_value c = let a = c.args in
-    let f : formed a.wire.now.kind a.wire.now.groups a.wire.now.direction a.wire.now.numbers ≡ false = sym c.formed.ensures ∙ c.if-not-formed.true in rw ((sym c.is_known.ensures ∙ c.if-not-is_known.false), (sym c.is_payload.ensures ∙ c.if-not-is_payload.false), f) refl
+returns-then-not-formed-clause-result_value c = rw ((sym c.is_known.ensures ∙ c.if-not-is_known.false), (sym c.is_payload.ensures ∙ c.if-not-is_payload.false), (sym c.formed.ensures ∙ c.if-not-formed.true)) refl
 
 pub returns-then-not-formed-clause-out_after : goal.returns-then-not-formed-clause-out_after
 unfolding split_wire
-returns-then-not-formed-clause-out_after c = let a = c.args in
-    let f : formed a.wire.now.kind a.wire.now.groups a.wire.now.direction a.wire.now.numbers ≡ false = sym c.formed.ensures ∙ c.if-not-formed.true in rw ((sym c.is_known.ensures ∙ c.if-not-is_known.false), (sym c.is_payload.ensures ∙ c.if-not-is_payload.false), f) refl
+returns-then-not-formed-clause-out_after c = rw ((sym c.is_known.ensures ∙ c.if-not-is_known.false), (sym c.is_payload.ensures ∙ c.if-not-is_payload.false), (sym c.formed.ensures ∙ c.if-not-formed.true)) refl
 
 pub write_part-requires : goal.write_part-requires
 write_part-requires c = let a = c.args in
