@@ -36,6 +36,7 @@ fn numbers_of(kind: u8, groups: u32) -> [u32; 31] {
     numbers
 }
 
+// The flags, read here and not by the library, whose flags these cases test.
 fn flags_of(kind: u8, notification: &[u8]) -> u32 {
     if kind == CROSS_TRAINER {
         return u24_at(notification, 0);

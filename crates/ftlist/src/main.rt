@@ -13,7 +13,8 @@ use text::text::Sheet;
 // One octet more than the longest capture that is listed, so that a longer one is noticed.
 const ROOM: usize = LONGEST_CAPTURE + 1;
 
-// One read into a buffer, after the octets that it has already: reads none if the input has ended.
+// One read into a buffer, after the octets that it has already: reads none if the input has ended. Buffer and position are two parameters:
+// what it promises counts from the beginning of the buffer.
 fn read_some<R: Read>(source: &mut R, buffer: &mut [u8], at: usize) -> io::Result<usize>
     requires { at ≤ length buffer.old }
     ensures { IfOk result (λ n. at + n ≤ length buffer.new) }

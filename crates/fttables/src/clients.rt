@@ -4,6 +4,7 @@ use crate::records::number_of;
 use crate::steps::mended;
 use output::first;
 use service::control::Console;
+use service::control::judging::WriteResult;
 use service::control::ranges::{HeartRateRange, Ranges, SignedRange, SpeedRange};
 use service::control::spin_down::TargetSpeeds;
 
@@ -43,7 +44,7 @@ pub(crate) const REQUEST_CONTROL: [u8; 1] = [0x00];
 pub(crate) const START: [u8; 1] = [0x07];
 
 // The result of a write that does what it asks for.
-pub(crate) const SUCCESS: u8 = 1;
+pub(crate) const SUCCESS: u8 = WriteResult::Success as u8;
 
 // Opens a machine, with the Feature value's length and the ranges put right in turn: the least
 // speed is above the greatest at first.
@@ -84,7 +85,7 @@ pub(crate) fn connecting(step: u8) -> Option<u8> {
     number_of(awaiting().connect(client).outcome)
 }
 
-// Client 4, then one that is not connected, then one that is.
+// Client 4, then one that is not connected, then one that is: a client, and no code.
 fn client_at(step: u8) -> u8 {
     mended(step, 1, 4, mended(step, 2, 2, 1))
 }

@@ -49,6 +49,7 @@ impl fmt::Display for Widths {
         if parameter.count() == 0 {
             return write!(f, "none");
         }
+        // by number and no chain: `width` is asked for each number, since no call lends the widths
         for i in 0..parameter.count() {
             if i > 0 {
                 write!(f, ", ")?;

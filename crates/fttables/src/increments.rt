@@ -87,52 +87,58 @@ fn print_speed(rt: &impl Print, range: SpeedRange, target: u16) -> io::Result<()
     print_line(rt, cells, ranges, &[0x02, low, high])
 }
 
-// The cells of a signed range.
-#[derive(Clone, Copy)]
-struct Ends(SignedRange);
-
-impl fmt::Display for Ends {
-    fn fmt<W: fmt::Write>(&self, f: &mut fmt::Formatter<W>) -> fmt::Result {
-        let SignedRange {
-            least,
-            greatest,
-            increment,
-        } = self.0;
-        write!(f, "{least} | {greatest} | {increment}")
-    }
+// The line of a signed range, by its name, and of a target.
+fn print_signed(
+    rt: &impl Print,
+    name: &str,
+    range: SignedRange,
+    target: i16,
+    ranges: Ranges,
+    octets: &[u8],
+) -> io::Result<()> {
+    let SignedRange {
+        least,
+        greatest,
+        increment,
+    } = range;
+    let cells = format_args!("{name} | {least} | {greatest} | {increment} | {target}");
+    print_line(rt, cells, ranges, octets)
 }
 
 // The line of a range of inclinations and a target.
 fn print_inclination(rt: &impl Print, range: SignedRange, target: i16) -> io::Result<()> {
-    let cells = format_args!("inclination | {} | {target}", Ends(range));
     let ranges = Ranges {
         inclination: range,
         ..RANGES
     };
     let [low, high] = target.to_le_bytes();
-    print_line(rt, cells, ranges, &[0x03, low, high])
+    print_signed(rt, "inclination", range, target, ranges, &[0x03, low, high])
 }
 
 // The line of a range of resistances and a target, which is one unsigned octet.
 fn print_resistance(rt: &impl Print, range: SignedRange, target: u8) -> io::Result<()> {
-    let cells = format_args!("resistance | {} | {target}", Ends(range));
     let ranges = Ranges {
         resistance: range,
         ..RANGES
     };
-    print_line(rt, cells, ranges, &[0x04, target])
+    print_signed(
+        rt,
+        "resistance",
+        range,
+        i16::from(target),
+        ranges,
+        &[0x04, target],
+    )
 }
 
-// The line of a range of powers and a target. It is not one with print_inclination: they differ in
-// a field of `Ranges`, which no parameter can name.
+// The line of a range of powers and a target.
 fn print_power(rt: &impl Print, range: SignedRange, target: i16) -> io::Result<()> {
-    let cells = format_args!("power | {} | {target}", Ends(range));
     let ranges = Ranges {
         power: range,
         ..RANGES
     };
     let [low, high] = target.to_le_bytes();
-    print_line(rt, cells, ranges, &[0x05, low, high])
+    print_signed(rt, "power", range, target, ranges, &[0x05, low, high])
 }
 
 // The line of a range of heart rates and a target.

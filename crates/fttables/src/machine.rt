@@ -3,6 +3,7 @@
 use crate::clients::{START, SUCCESS, after, holding};
 use crate::increments::print_steps;
 use crate::written::Written;
+use output::state::ModeWords;
 use service::control::Console;
 use service::control::machine::Mode;
 use service::control::op_codes::op_code;
@@ -73,14 +74,6 @@ const COMPARED: [(&str, &str, &str, u8); 5] = [
     ("heart rate", "u8", "u8", 0x06),
 ];
 
-fn name(mode: Mode) -> &'static str {
-    match mode {
-        Mode::Stopped => "stopped",
-        Mode::Running => "running",
-        Mode::Paused => "paused",
-    }
-}
-
 // A console whose client 0 holds control and whose machine is in one of the states.
 fn in_state(mode: Mode) -> Console {
     let console = holding();
@@ -95,7 +88,7 @@ fn in_state(mode: Mode) -> Console {
 fn print_write(rt: &impl Print, console: Console, octets: &[u8]) -> io::Result<()> {
     let reply = console.write(0, octets);
     match reply.response.octets[2] {
-        SUCCESS => print!(rt; " {} |", name(reply.console.machine.mode)),
+        SUCCESS => print!(rt; " {} |", ModeWords(reply.console.machine.mode)),
         result => print!(rt; " result {result:02X} |"),
     }
 }
@@ -104,7 +97,7 @@ fn print_states(rt: &impl Print) -> io::Result<()> {
     print!(rt; "\n## States\n\n| machine | 07 | 08 01 | 08 02 | 01 |\n|---|---|---|---|---|\n")?;
     for mode in MODES {
         let console = in_state(mode);
-        print!(rt; "| {} |", name(console.machine.mode))?;
+        print!(rt; "| {} |", ModeWords(console.machine.mode))?;
         print_write(rt, console, &START)?;
         print_write(rt, console, &STOP)?;
         print_write(rt, console, &PAUSE)?;

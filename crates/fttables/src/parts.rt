@@ -17,7 +17,8 @@ pub(crate) struct Splitting {
     payload: usize,
 }
 
-// A part: its octets, what they say, and the number of all parts.
+// A part: its octets in a buffer of its own with their length, since there is no heap; what they say;
+// and the number of all parts.
 #[derive(Clone, Copy)]
 pub(crate) struct Sent {
     space: [u8; GREATEST_PAYLOAD],

@@ -125,7 +125,7 @@ pub(crate) fn listing(step: u8) -> Option<u8> {
 }
 
 // The length of a capture: too long at first, then without the notification's octets, and then with
-// them.
+// them: a length by the step's number, and no step that is run.
 fn capture_length(step: u8, notification: u16) -> usize {
     match step {
         0 => CAPTURE,

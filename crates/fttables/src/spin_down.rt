@@ -2,6 +2,7 @@
 // speeds a machine can have: as the calls answer.
 use crate::clients::{RANGES, REQUEST_CONTROL, SPEEDS, SUCCESS, after, joined};
 use output::Octets;
+use output::state::RunWords;
 use record::feature::Feature;
 use service::control::counted::Counted;
 use service::control::spin_down::{Run, TargetSpeeds};
@@ -50,14 +51,6 @@ fn in_run(run: Run) -> Console {
     }
 }
 
-fn name(run: Run) -> &'static str {
-    match run {
-        Run::Off => "no run",
-        Run::Quiet => "a run that has said nothing",
-        Run::Warned => "a run that has said 4",
-    }
-}
-
 // The octets of a response or a status, or that there is none.
 #[derive(Clone, Copy)]
 struct Said(Counted);
@@ -85,7 +78,7 @@ fn print_write(
         Octets(octets),
         Said(reply.response),
         Said(reply.status),
-        name(reply.console.machine.run),
+        RunWords(reply.console.machine.run),
     )
 }
 
@@ -124,7 +117,7 @@ impl fmt::Display for Led {
         if status.count > 0 {
             write!(f, "status{}: ", Said(status))?;
         }
-        write!(f, "{}", name(console.machine.run))
+        write!(f, "{}", RunWords(console.machine.run))
     }
 }
 

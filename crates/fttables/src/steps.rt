@@ -6,7 +6,7 @@ pub(crate) fn mended<T: Drop>(step: u8, from: u8, wrong: T, right: T) -> T {
 }
 
 // A notification's length: too long before a step, then shorter than its flags, then its flags
-// alone, then enough for a group.
+// alone, then enough for a group: a length by the step's number, and no step that is run.
 pub(crate) fn length_at(step: u8, from: u8) -> u16 {
     match step.checked_sub(from) {
         None => 513,

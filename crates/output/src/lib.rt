@@ -1,7 +1,8 @@
-// What the programs print by `print!` and `println!`: octets, the text in a lent buffer, who holds control, and the answer to a call. What prints has no contract but is safe and ends.
+// What the programs print by `print!` and `println!`: octets, the text in a lent buffer, who holds control, the state of a machine, and the answer to a call. What prints has no contract but is safe and ends.
 #![tactic(auto)]
 
 pub mod answer;
+pub mod state;
 
 ghost use Rattle.std.specs.Prelude.{◌≡◌, take};
 
@@ -48,7 +49,7 @@ impl fmt::Display for Holder {
 }
 
 // The first `length` octets of a buffer; all of it if it has fewer. A call that writes to a lent buffer gives a length, as document 01 has it,
-// and no slice of the buffer.
+// and no slice of the buffer; and a program cuts at lengths of its own, which a range would have to be proved within.
 pub fn first(buffer: &[u8], length: usize) -> &[u8]
     ensures { result.now ≡ take length buffer.now }
 {

@@ -33,7 +33,8 @@ pub fn hordivasz_split(
     handed_out(answer, out_length, out_parts)
 }
 
-// Stores the length of a listing through the pointer; on refusal 14 leaves what was there.
+// Stores the length of a listing through the pointer, and gives C the number of the answer, 0 for no refusal; on refusal 14 leaves what was
+// there.
 fn listed(answer: Result<usize, Refusal>, out_length: &mut usize) -> u32
     ensures value { result ≡ code (meant answer) }
     ensures out_length_after { out_length.new ≡ told (meant answer) (λ n. n) out_length.old }

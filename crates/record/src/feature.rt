@@ -3,6 +3,7 @@ ghost use Rattle.std.specs.Prelude.{◌≡◌};
 ghost use Rattle.record.specs.Answer.{meant};
 ghost use Rattle.record.specs.Feature.{feature_of, feature_octets, has_named, feature_bits, target_bits};
 
+use crate::groups::has;
 use crate::octets::{number_at, put_number};
 use crate::refusal::Refusal;
 
@@ -16,10 +17,7 @@ pub struct Feature {
 fn has_bit(word: u32, bit: u8) -> bool
     ensures { result ≡ has_named word bit }
 {
-    if 16 < bit {
-        return false;
-    }
-    (word >> bit) % 2 == 1
+    bit <= 16 && has(word, bit)
 }
 
 impl Feature {
@@ -130,7 +128,7 @@ impl Feature {
         has_bit(self.targets, bit)
     }
 
-    // The bits of the features, each by its name, in document 01's order.
+    // The bits of the features, each by its name, in document 01's order. This and `target_bits` are two tables, and no twins.
     pub fn feature_bits() -> [u8; 17]
         ensures { result ≡ feature_bits }
     {

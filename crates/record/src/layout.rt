@@ -251,7 +251,8 @@ pub fn row_count(kind: u8) -> usize
     rows(kind).len()
 }
 
-// Row i of a kind, in wire order; past the last row, and for an unknown kind, a row that means nothing.
+// Row i of a kind, in wire order; past the last row, and for an unknown kind, a row that means nothing: a row and no `Option`, as the
+// contract promises.
 pub fn row_of(kind: u8, i: usize) -> Row
     ensures { result ≡ get_or (Layout.layout kind) i no_row }
 {

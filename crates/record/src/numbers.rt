@@ -76,7 +76,7 @@ pub(crate) fn put_number(numbers: &mut [u32; 31], field: u8, x: u32)
 }
 
 // The number of a field, truncated to a u8, a u16 and an i16. Three functions and not one over the type: an `as` must lose nothing,
-// so that each type has a modulus of its own.
+// so that u8 and u16 have a modulus each, and the i16 is the u16, signed.
 fn octet_at(numbers: &[u32; 31], field: u8) -> u8
     ensures { result ≡ get_or numbers.now field 0 % 2 ^ 8 }
 {

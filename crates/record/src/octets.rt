@@ -3,7 +3,8 @@ ghost use Rattle.std.specs.Prelude.{◌≡◌, ◌≤◌, drop};
 ghost use Rattle.record.specs.Octets.{number, spelled, placed};
 ghost use Rattle.record.specs.Octets;
 
-// The number in as many octets as are asked for, from an index on.
+// The number in as many octets as are asked for, from an index on. By recursion and no loop: each octet counts 256 times less than the
+// next, and so says `number`.
 pub(crate) fn number_at(s: &[u8], at: usize, octets: usize) -> u32
     requires { octets ≤ 4 }
     ensures { result ≡ number octets (drop at s.now) }
@@ -17,7 +18,8 @@ pub(crate) fn number_at(s: &[u8], at: usize, octets: usize) -> u32
     s[at] as u32 + 256 * number_at(s, at + 1, octets - 1)
 }
 
-// The octet at an index. This and the next three are `number_at`, each as the type that its number of octets fits.
+// The octet at an index. This, the next two and `s16_at` are public, and each contract promises a type: so they are no one function over
+// the number of octets, which `number_at` is.
 pub fn u8_at(s: &[u8], at: usize) -> u8
     ensures { result ≡ number 1 (drop at s.now) }
 {
@@ -38,7 +40,7 @@ pub fn u24_at(s: &[u8], at: usize) -> u32
     number_at(s, at, 3)
 }
 
-// Sixteen bits as a signed number, in two's complement.
+// Sixteen bits as a signed number, in two's complement; its contract says in document 01's words what the cast does.
 pub(crate) fn signed(bits: u16) -> i16
     ensures { result ≡ Octets.signed bits }
 {

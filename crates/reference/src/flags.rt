@@ -40,7 +40,8 @@ fn put_others(sheet: &mut Sheet, kind: u8, last: u8)
     sheet.put_bytes(b" to 15 | reserved: written 0, ignored when read |\n");
 }
 
-// The groups by their bits, and the bits after them.
+// The groups by their bits, and the bits after them. The loop is that of the header's `put_rows`, with other words for a row: each has its
+// own definition of what it puts, which a closure would have to take along.
 fn put_bits(sheet: &mut Sheet, kind: u8)
     ensures { Put sheet.old (bit_lines kind) sheet.new }
 {

@@ -5,19 +5,6 @@ use record::refusal::Refusal;
 use service::collector::{Collected, Collection, Told};
 use std::fmt;
 
-// The answer to an opening.
-#[derive(Clone, Copy)]
-pub(crate) struct Begun(pub(crate) Result<(), Refusal>);
-
-impl fmt::Display for Begun {
-    fn fmt<W: fmt::Write>(&self, f: &mut fmt::Formatter<W>) -> fmt::Result {
-        match self.0 {
-            Ok(()) => write!(f, "opened"),
-            Err(refusal) => write!(f, "{}", Refused(refusal)),
-        }
-    }
-}
-
 // A collection: its kind, what it was told, the held groups, and the numbers of their fields.
 #[derive(Clone, Copy)]
 pub(crate) struct State<'a>(pub(crate) &'a Collection);

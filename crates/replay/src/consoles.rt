@@ -1,11 +1,11 @@
 // How a line opens a console, and what is printed of one: the reply to a call, then the whole state after it.
-use crate::printing::Refused;
+use crate::printing::Said;
 use output::Octets;
+use output::state::ModeWords;
 use record::feature::Feature;
 use record::octets::{s16_at, u8_at, u16_at};
-use record::refusal::Refusal;
 use service::control::counted::Counted;
-use service::control::machine::{Machine, Mode, Setup};
+use service::control::machine::{Machine, Setup};
 use service::control::ranges::{HeartRateRange, Ranges, SignedRange, SpeedRange};
 use service::control::spin_down::{Run, TargetSpeeds};
 use service::control::{Console, Reply};
@@ -77,14 +77,7 @@ impl fmt::Display for Number {
     }
 }
 
-fn mode_name(mode: Mode) -> &'static str {
-    match mode {
-        Mode::Stopped => "stopped",
-        Mode::Running => "running",
-        Mode::Paused => "paused",
-    }
-}
-
+// The words of the lines that another implementation prints too, which are shorter than those of `output`.
 fn run_name(run: Run) -> &'static str {
     match run {
         Run::Off => "off",
@@ -144,7 +137,7 @@ impl fmt::Display for Whole<'_> {
         } = machine.setup;
         let Feature { features, targets } = feature;
         let TargetSpeeds { low, high } = speeds;
-        write!(f, " {} holder={holder}", mode_name(machine.mode))?;
+        write!(f, " {} holder={holder}", ModeWords(machine.mode))?;
         write!(f, " settings:{settings}")?;
         write!(f, " features={features} targets={targets}")?;
         write!(f, "{} low={low} high={high}", Bounds(&ranges))?;
@@ -170,19 +163,6 @@ impl fmt::Display for State<'_> {
     }
 }
 
-// Whether a call was done or refused.
-#[derive(Clone, Copy)]
-struct Said(Result<(), Refusal>);
-
-impl fmt::Display for Said {
-    fn fmt<W: fmt::Write>(&self, f: &mut fmt::Formatter<W>) -> fmt::Result {
-        match self.0 {
-            Ok(()) => write!(f, "done"),
-            Err(refusal) => write!(f, "{}", Refused(refusal)),
-        }
-    }
-}
-
 // A reply, and the console after the call.
 #[derive(Clone, Copy)]
 pub(crate) struct Replied<'a>(pub(crate) &'a Reply);
@@ -192,7 +172,7 @@ impl fmt::Display for Replied<'_> {
         let reply = self.0;
         let response = Padded(reply.response);
         let status = Padded(reply.status);
-        write!(f, "{} response={response}", Said(reply.outcome))?;
+        write!(f, "{} response={response}", Said("done", reply.outcome))?;
         write!(f, " status={status}{}", State(&reply.console))
     }
 }

@@ -8,9 +8,10 @@
 //   open           a kind;    fixed    a kind and the told set in four octets
 //   notification   its octets
 //   split          kind, groups in four octets, direction, payload in four, part in four, room in two, then each of the 31 fields in four
-use crate::collections::{Answer, Begun, State};
+use crate::collections::{Answer, State};
 use crate::consoles::{Padded, Replied, opened};
 use crate::lines::{LONGEST, octets_of, u32_at, word_of};
+use crate::printing::Said;
 use crate::splits::run_split;
 use arrayvec::ArrayVec;
 use record::octets::{u8_at, u16_at};
@@ -83,7 +84,11 @@ impl<R: Print> Replay<R> {
     fn open(&mut self, kind: u8, told: Told) -> io::Result<()> {
         let begun = open(kind, told);
         self.collection = begun.collection;
-        println!(self.rt; "{}{}", Begun(begun.answer), State(&begun.collection))
+        println!(self.rt;
+            "{}{}",
+            Said("opened", begun.answer),
+            State(&begun.collection)
+        )
     }
 
     // Gives the collection a notification.

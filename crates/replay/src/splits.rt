@@ -20,7 +20,7 @@ const MOST_LENT: usize = 512;
 struct Fields<'a>(&'a [u8]);
 
 impl Fields<'_> {
-    // A field of one octet, of two, and of two with a sign.
+    // A field of one octet, of two, and of two with a sign: a call for each type, as the library has one.
     fn octet(self, field: u8) -> u8 {
         u8_at(self.0, 4 * usize::from(field))
     }

@@ -37,7 +37,7 @@ pub struct Opened {
 }
 
 // What a collection answers to a notification. "Each answer says whether held groups were dropped unused". Three cases, so neither
-// an `Option` nor a `Result`.
+// an `Option` nor a `Result`; each has `dropped`, since each says it.
 #[derive(Clone, Copy)]
 pub enum Collected {
     Waiting { dropped: bool },

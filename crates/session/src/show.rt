@@ -1,28 +1,21 @@
 // A session at the control point: each call of a client is made, printed as a line, and leaves the
 // console after it. `state` prints the state of its machine.
 use output::answer::Answer;
+use output::state::ModeWords;
 use output::{Holder, Octets};
 use record::octets::u16_at;
-use service::control::machine::Mode;
 use service::control::{Console, Reply};
 use std::{fmt, io};
 
 // The op code that stores the speed.
 const SET_SPEED: u8 = 0x02;
 
-// The console that is called, and where the calls are printed.
+// The console that is called, and where the calls are printed. The program spindown has one like it:
+// a shared one would be public, and what is public has a contract, which no printing has.
 #[derive(Drop)]
 pub(crate) struct Session<R: Print> {
     pub(crate) rt: R,
     pub(crate) console: Console,
-}
-
-fn name(mode: Mode) -> &'static str {
-    match mode {
-        Mode::Stopped => "stopped",
-        Mode::Running => "running",
-        Mode::Paused => "paused",
-    }
 }
 
 impl<R: Print> Session<R> {
@@ -65,7 +58,7 @@ impl<R: Print> Session<R> {
         let speed = u16_at(&self.console.setting(SET_SPEED).octets, 0);
         println!(self.rt;
             "{label}: {}, {} holds control, speed {speed}",
-            name(machine.mode),
+            ModeWords(machine.mode),
             Holder(machine.holder),
         )
     }

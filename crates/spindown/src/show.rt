@@ -1,8 +1,8 @@
 // A session at the control point, with the calls that a spin down needs: each is made, printed as a
 // line, and leaves the console after it. `state` prints who holds control, and the run.
 use output::answer::Answer;
+use output::state::RunWords;
 use output::{Holder, Octets};
-use service::control::spin_down::Run;
 use service::control::{Console, Reply};
 use std::{fmt, io};
 
@@ -12,14 +12,6 @@ use std::{fmt, io};
 pub(crate) struct Session<R: Print> {
     pub(crate) rt: R,
     pub(crate) console: Console,
-}
-
-fn name(run: Run) -> &'static str {
-    match run {
-        Run::Off => "no run",
-        Run::Quiet => "a run that has said nothing",
-        Run::Warned => "a run that has said 4",
-    }
 }
 
 impl<R: Print> Session<R> {
@@ -74,6 +66,9 @@ impl<R: Print> Session<R> {
     pub(crate) fn state(&self, label: &str) -> io::Result<()> {
         let machine = self.console.machine;
         let holder = Holder(machine.holder);
-        println!(self.rt; "{label}: {holder} holds control, {}", name(machine.run))
+        println!(self.rt;
+            "{label}: {holder} holds control, {}",
+            RunWords(machine.run)
+        )
     }
 }

@@ -24,7 +24,7 @@ const TABLE: [(u8, u8, usize); 8] = [
     (6, 0, 30),
 ];
 
-// A part that was split off a record and read.
+// A part that was split off a record and read: its octets in a buffer of its own with their extent, since there is no heap.
 #[derive(Clone, Copy)]
 struct Run {
     octets: [u8; LENT],

@@ -68,6 +68,7 @@ const OWN: Record = Record {
     average_cadence: 1031,
 };
 
+// The number of a field, and another one in its place; the library has these two for itself alone.
 pub(crate) fn number_at(numbers: &[u32; 31], field: u8) -> u32 {
     numbers.get(usize::from(field)).copied().unwrap_or(0)
 }

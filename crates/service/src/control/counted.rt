@@ -3,7 +3,7 @@ ghost use Rattle.std.specs.Prelude.{◌≡◌, ◌∷◌, ◌≤◌, length};
 ghost use Rattle.service.specs.Control.Counted.{boxed, counted};
 
 // The first `count` octets count; those past them are 0. The longest are a status octet and a parameter of ten.
-// An array and not a vector: there is no heap, and a reply is copied.
+// An array with a count: there is no heap, and a reply is copied, which an array with a length of the kit's cannot be.
 #[derive(Clone, Copy)]
 pub struct Counted {
     pub count: u8,
@@ -24,7 +24,8 @@ impl Counted {
         }
     }
 
-    // An octet and a parameter.
+    // An octet and a parameter. That a parameter has ten octets at most stands here and where one is handed on: it is a part of what the
+    // client wrote, and no type of ours.
     pub(crate) fn with_parameter(first: u8, p: &[u8]) -> Counted
         requires { length p.now ≤ 10 }
         ensures { result ≡ boxed (first ∷ p.now) }

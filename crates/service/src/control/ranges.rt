@@ -30,7 +30,8 @@ pub struct Ranges {
     pub heart_rate: HeartRateRange,
 }
 
-// A number of a range, or its increment, as an i32: a u8, a u16 or an i16.
+// A number of a range, or its increment, as an i32: a u8, a u16 or an i16. A trait of its own and no `Into<i32>`: contracts speak of its
+// `value`.
 pub(crate) trait Bounded: Copy {
     ghost value: { Self → ℤ };
 
