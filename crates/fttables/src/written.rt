@@ -39,6 +39,7 @@ impl fmt::Display for Written {
         let mut text = [0u8; LONGEST];
         let mut sheet = Sheet::new(&mut text);
         self.put(&mut sheet);
+        // by `first`: with `as_bytes` the proof did not close
         let length = sheet.at;
         write!(f, "{}", Ascii(first(&text, length)))
     }

@@ -97,7 +97,8 @@ fn end(walk: Walk) -> Walk
     }
 }
 
-// Ends the walk with the line of a refusal.
+// Ends the walk with the line of a refusal. A walk is a value, and what the lines are put on and what is read are lent: so walk, capture and
+// sheet are three parameters.
 fn refuse(sheet: &mut Sheet, walk: Walk, refusal: Refusal) -> Walk
     ensures { Took sheet.old (ends walk (refused_line (number_of refusal))) sheet.new result }
 {

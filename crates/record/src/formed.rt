@@ -32,7 +32,7 @@ fn row_fits(set: u32, row: Row, numbers: &[u32; 31]) -> bool
     true
 }
 
-// "each value fits its width"
+// "each value fits its width". Kind, set and numbers are three parameters and no `Wire`: the set has the main group, or is a part's.
 fn all_fits(kind: u8, set: u32, numbers: &[u32; 31]) -> bool
     ensures { result ≡ all_fit (named set (layout kind)) numbers.now }
 {

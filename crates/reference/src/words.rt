@@ -1,4 +1,5 @@
-// The words in the cells of a table.
+// The words in the cells of a table. Here and in the other files of this crate a sheet, a kind and a row are three parameters: what is put is
+// of a kind's row, and a struct of the three would be made anew for each row.
 #![tactic(auto, using(text::proofs::Writing::writes))]
 
 ghost use Rattle.std.specs.Prelude.{◌≡◌};

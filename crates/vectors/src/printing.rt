@@ -6,6 +6,7 @@ pub(crate) const LENT: usize = 64;
 // What a lent octet holds until it is written.
 pub(crate) const UNTOUCHED: u8 = 0xAA;
 
+// The words for a test, here and in the next: one call for both would be handed the words at each place.
 pub(crate) fn yes(test: bool) -> &'static str {
     if test { "yes" } else { "no" }
 }

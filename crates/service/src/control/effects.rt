@@ -52,7 +52,8 @@ fn halted(x: u8) -> Mode
     Mode::Paused
 }
 
-// The machine after an op code has succeeded with its parameter.
+// The machine after an op code has succeeded with its parameter. Machine, client and parameter are three parameters here and below, as
+// `write` gets them: nothing holds all three.
 fn done(machine: Machine, client: u8, act: Act, p: &[u8]) -> Machine
     requires { Room act (length p.now) }
     ensures { result ≡ Effects.done machine client act p.now }
