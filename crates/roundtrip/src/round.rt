@@ -92,7 +92,7 @@ pub(crate) fn finish(rt: &impl Print, ran: Result<(), Stop>) -> io::Result<()> {
 }
 
 // The lines of a refusal; then those of a record. They are two functions: one that takes what to put as a closure was tried, and its proof
-// did not close.
+// did not close; nor did it with `as_bytes` for `first`.
 fn show_refused(rt: &impl Print, refusal: Refusal) -> io::Result<()> {
     let mut lines = [0u8; LONGEST_LINES];
     let mut sheet = Sheet::new(&mut lines);
