@@ -109,12 +109,12 @@ class Source:
             name, type_, value = m.groups()
             self.constants.setdefault(name, []).append((f"{file} {family} " + re.sub(r"\d+", "N", type_), value))
         text = re.sub(r"//[^\n]*", "", text)
-        for _, fields in re.findall(r"\bstruct (\w+) \{([^}]*)\}", text):
+        for _, fields in re.findall(r"\bstruct (\w+)(?:<[^>]*>)? \{((?:[^{}]|\{[^}]*\})*)\}", text):
             self.structs.append(dict(re.findall(r"(\w+): ([^,\n]+)", fields)))
         for _, fields in re.findall(r"\bstruct (\w+)\(([^;]*)\);", text):
             self.structs.append({str(i): f.replace("pub ", "").strip() for i, f in enumerate(re.split(r",\s*(?![^\[]*\])", fields))})
         for name, body in re.findall(r"\benum (\w+) \{((?:[^{}]|\{[^}]*\})*)\}", text):
-            self.enums.setdefault(name, {}).update(re.findall(r"(\w+)\s*(\([^)]*\)|\{[^}]*\})?,(?![^{]*\})", body))
+            self.enums.setdefault(name, {}).update(re.findall(r"(\w+)\s*(\([^)]*\)|\{[^}]*\})?(?: = \w+)?,(?![^{]*\})", body))
 
 
 class Site:

@@ -98,9 +98,15 @@ def turns(text, tokens):
     for i, token in enumerate(tokens):
         if token.text == "for":
             open_ = next(j for j in range(i, len(tokens)) if tokens[j].text == "{")
-            dots = next(j for j in range(i, open_) if tokens[j].text == "..")
-            low, high = text_of(text, tokens[i + 3:dots]), text_of(text, tokens[dots + 1:open_])
-            yield tokens[i + 3].start, tokens[open_ - 1].end, ["1.." + high if low == "0" else f"{low} + 1..{high}", f"{low}..{high} - 1"]
+            in_ = next(j for j in range(i, open_) if tokens[j].text == "in")
+            dots = next((j for j in range(in_, open_) if tokens[j].text == ".."), None)
+            if dots is None:
+                all_ = text_of(text, tokens[in_ + 1:open_])
+                new = [f"{all_}.iter().skip(1)", f"{all_}.iter().take({all_}.len().saturating_sub(1))"]
+            else:
+                low, high = text_of(text, tokens[in_ + 1:dots]), text_of(text, tokens[dots + 1:open_])
+                new = ["1.." + high if low == "0" else f"{low} + 1..{high}", f"{low}..{high} - 1"]
+            yield tokens[in_ + 1].start, tokens[open_ - 1].end, new
         if token.text == "while":
             open_ = next(j for j in range(i, len(tokens)) if tokens[j].text == "{")
             less = [j for j in range(i, open_) if tokens[j].text == "<"]

@@ -12,9 +12,11 @@ mod records;
 mod statuses;
 
 use crate::outside::{GENERIC, READS, TRAINING};
+use output::GoesOn;
 use std::io;
 
 fn main(rt: HostRuntime) -> io::Result<()> {
+    let rt = GoesOn(rt);
     print!(rt; "{GENERIC}")?;
     bench::run_feature(&rt)?;
     print!(rt; "{READS}")?;

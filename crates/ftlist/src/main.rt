@@ -41,13 +41,14 @@ fn read_input<R: Read>(source: &mut R, buffer: &mut [u8]) -> io::Result<usize>
 
 // Lists a capture, until the listing ends or a write fails.
 fn show_listing<W: Write>(target: &mut W, capture: &[u8]) -> io::Result<()> {
+    let mut lines = [0u8; LONGEST_LINES];
     // no `for`: how many steps there are is known only at the end
     let mut walk = begin();
     while !walk.ended {
-        let mut lines = [0u8; LONGEST_LINES];
         let mut sheet = Sheet::new(&mut lines);
         walk = step(&mut sheet, walk, capture);
-        target.write_all(sheet.as_bytes())?;
+        let length = sheet.at;
+        target.write_all(&lines[..length])?;
     }
     Ok(())
 }

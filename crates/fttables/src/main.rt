@@ -32,6 +32,7 @@ use crate::refusals::{print_orders, print_refusals};
 use crate::spin_down::print_spin_down;
 use crate::widths::print_widths;
 use crate::written::Written;
+use output::GoesOn;
 use record::layout::{INDOOR_BIKE, TREADMILL};
 use record::split::LEAST_PAYLOAD;
 use std::io;
@@ -65,6 +66,7 @@ fn print_splitting(rt: &impl Print) -> io::Result<()> {
 }
 
 fn main(rt: HostRuntime) -> io::Result<()> {
+    let rt = GoesOn(rt);
     print_pages(&rt)?;
     print_calls(&rt)?;
     print_kinds(&rt)?;

@@ -6,8 +6,30 @@ pub mod state;
 
 ghost use Rattle.std.specs.Prelude.{◌≡◌, take};
 
-use std::fmt;
-use std::fmt::Write;
+use std::fmt::{Display, Write};
+use std::{fmt, io};
+
+// Standard output as these programs print on it: where it cannot be written, what is printed is left out, and the program goes on and ends as it would have.
+// So no `io::Result` of a call that prints on it is an error.
+#[derive(Drop)]
+pub struct GoesOn<R: Print>(pub R);
+
+impl<R: Print> Print for GoesOn<R> {
+    fn print<D: Display + Drop>(&self, value: D) -> io::Result<()> {
+        let _ = self.0.print(value);
+        Ok(())
+    }
+
+    fn println<D: Display + Drop>(&self, value: D) -> io::Result<()> {
+        let _ = self.0.println(value);
+        Ok(())
+    }
+
+    fn write_all(&self, bytes: &[u8]) -> io::Result<()> {
+        let _ = self.0.write_all(bytes);
+        Ok(())
+    }
+}
 
 // Octets, each printed as a space and two hexadecimal digits in capitals.
 #[derive(Clone, Copy)]

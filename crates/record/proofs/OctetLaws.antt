@@ -1,8 +1,8 @@
 -- Laws of octets, for any number of them: reading and writing one octet more; reading and writing are inverse; so are `signed` and `unsigned`.
 use Prim.Native.Nat.{ℕ, zero, suc, ◌+◌, ◌*◌, ◌-◌, ◌/◌, ◌%◌, ◌^◌, ◌≤◌, ◌<◌}
-use mathlib.Core.Path.{◌≡◌, refl, sym, ap, ◌∙◌}
+use mathlib.Core.Path.{◌≡◌, refl, ap, ◌∙◌}
 use mathlib.Core.List.{List, [], ◌∷◌, ◌++◌, map, append-nil}
-use native.Mathlib.Nat.{pow-suc, one-le-pow, pow-le-pow_right, le_trans, add-zero, zero-add, zero-lt-suc}
+use native.Mathlib.Nat.{pow-suc, one-le-pow, add-zero, zero-add, zero-lt-suc}
 use native.Mathlib.Numerals.{add-one}
 use native.Mathlib.Omega.{arith}
 use lib.Arith.{mod-mul}
@@ -96,22 +96,24 @@ placed_append out at [] b = rw (add-zero at)
 placed_append out at (x ∷ a) b =
     let e : at + suc (length a) ≡ suc at + length a = omega arith in rw e (placed_append (set out at x) (suc at) a b)
 
--- reading no octet, and one octet more
+-- reading no octet, and two to four, one by one
 pub number_none : (s : List ℕ) → number 0 s ≡ 0
 unfolding number
 number_none s = refl
 
-pub number_more : (n at : ℕ) (s : List ℕ) → (n ≡ 0 → ⊥) → get_or s at 0 + 256 * number (n - 1) (drop (at + 1) s) ≡ number n (drop at s)
-number_more zero at s h = absurd (h refl)
-number_more (suc n) at s h =
-    let e : suc n - 1 ≡ n = omega arith in rw (e, ← number_one at s) (sym (number_step n at s))
+pub number_two : (at : ℕ) (s : List ℕ) → number 2 (drop at s) ≡ number 1 (drop at s) + 256 * number 1 (drop (at + 1) s)
+number_two = number_step 1
 
--- up to three octets spell less than 256 ^ 3
-pub three_below : (n at : ℕ) (s : List ℕ) → n ≤ 4 → ((i : ℕ) → Fits w8 (get_or s i 0)) → number (n - 1) (drop at s) < 256 ^ 3
-three_below n at s l h =
-    let p : number (n - 1) (drop at s) < 256 ^ (n - 1) = octets_below (n - 1) at s h in
-    let q : 256 ^ (n - 1) ≤ 256 ^ 3 = pow-le-pow_right {n = 256} (lit< tt) {i = n - 1} {j = 3} (omega arith) in
-    le_trans p q
+pub number_three : (at : ℕ) (s : List ℕ) →
+    number 3 (drop at s) ≡ number 1 (drop at s) + 256 * (number 1 (drop (at + 1) s) + 256 * number 1 (drop (at + 2) s))
+number_three at s = let e : at + 1 + 1 ≡ at + 2 = omega arith in rw (number_step 2 at s, number_two (at + 1) s, e)
+
+pub number_four : (at : ℕ) (s : List ℕ) →
+    number 4 (drop at s) ≡
+    number 1 (drop at s) + 256 * (number 1 (drop (at + 1) s) + 256 * (number 1 (drop (at + 2) s) + 256 * number 1 (drop (at + 3) s)))
+number_four at s =
+    let e : at + 1 + 1 ≡ at + 2 = omega arith in
+    let f : at + 1 + 2 ≡ at + 3 = omega arith in rw (number_step 3 at s, number_three (at + 1) s, e, f)
 
 -- writing one octet
 pub placed_one : (x : ℕ) (out : List ℕ) (at : ℕ) → x < 256 → set out at x ≡ placed out at (spelled 1 x)

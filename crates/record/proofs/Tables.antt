@@ -7,11 +7,11 @@ use native.Mathlib.Omega.{arith}
 use native.Mathlib.Nat.{le_trans, mod-one, zero-add, suc-add}
 use native.Mathlib.Numerals.{add-one}
 use lib.Dec.{eqb, leb, ltb}
-use lib.ListN.{length}
+use lib.ListN.{length, get_or}
 use Rattle.record.specs.declared.layout.Row.{Row}
 use Rattle.record.specs.declared.layout.Width.{Width}
 use Rattle.record.specs.declared.layout.Width.TheVariants.{U8, U16, U24, S16}
-use Rattle.record.specs.Layout.{octets_of, tables, layout, treadmill, cross_trainer, step_climber, stair_climber, rower, indoor_bike}
+use Rattle.record.specs.Layout.{octets_of, no_row, tables, layout, treadmill, cross_trainer, step_climber, stair_climber, rower, indoor_bike}
 use Rattle.record.specs.Groups.{has, named, size, groups_of, listed, flags_octets, set_length}
 use Rattle.record.proofs.Tests.{passed, failed, tested, eqb_eq, eqb_ne, leb_le, and_l, and_r, all, all_at, all_in}
 use Rattle.record.proofs.Rows.{below, groups_below, named_low, named_empty, size_named, size_next}
@@ -47,6 +47,13 @@ module _ (kind : ℕ) where
   rows_most =
       leb_le (length (layout kind)) 20
       (and_l (leb (length (layout kind)) 20) (all field_known (layout kind)) (and_r bits_and_octets count_and_fields (layout_small kind)))
+
+  pub field_below : (i : ℕ) → (get_or (layout kind) i no_row).1 < 31
+  unfolding field_known
+  field_below i =
+      leb_le (suc (get_or (layout kind) i no_row).1) 31
+      (all_at field_known (layout kind) no_row
+      (and_r (leb (length (layout kind)) 20) (all field_known (layout kind)) (and_r bits_and_octets count_and_fields (layout_small kind))) refl i)
 
   pub octets_most : (set : ℕ) → set_length kind set ≤ 64
   octets_most set =

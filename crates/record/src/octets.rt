@@ -3,27 +3,36 @@ ghost use Rattle.std.specs.Prelude.{◌≡◌, ◌≤◌, drop};
 ghost use Rattle.record.specs.Octets.{number, spelled, placed};
 ghost use Rattle.record.specs.Octets;
 
-// The number in as many octets as are asked for, from an index on. By recursion and no loop: each octet counts 256 times less than the
-// next, and so says `number`.
-pub(crate) fn number_at(s: &[u8], at: usize, octets: usize) -> u32
-    requires { octets ≤ 4 }
-    ensures { result ≡ number octets (drop at s.now) }
-{
-    if octets == 0 {
-        return 0;
-    }
-    if s.len() <= at {
-        return 0;
-    }
-    s[at] as u32 + 256 * number_at(s, at + 1, octets - 1)
-}
-
 // The octet at an index. This, the next two and `s16_at` are public, and each contract promises a type: so they are no one function over
 // the number of octets, which `number_at` is.
 pub fn u8_at(s: &[u8], at: usize) -> u8
     ensures { result ≡ number 1 (drop at s.now) }
 {
-    number_at(s, at, 1) as u8
+    if at < s.len() {
+        return s[at];
+    }
+    0
+}
+
+// The number in as many octets as are asked for, from an index on. A case for each count and no recursion, which costs a call for each octet.
+pub(crate) fn number_at(s: &[u8], at: usize, octets: usize) -> u32
+    requires { octets ≤ 4 }
+    ensures { result ≡ number octets (drop at s.now) }
+{
+    if s.len() <= at {
+        return 0;
+    }
+    let a = u8_at(s, at) as u32;
+    match octets {
+        0 => 0,
+        1 => a,
+        2 => a + 256 * u8_at(s, at + 1) as u32,
+        3 => a + 256 * (u8_at(s, at + 1) as u32 + 256 * u8_at(s, at + 2) as u32),
+        _ => {
+            let c = u8_at(s, at + 2) as u32 + 256 * u8_at(s, at + 3) as u32;
+            a + 256 * (u8_at(s, at + 1) as u32 + 256 * c)
+        }
+    }
 }
 
 // The number in the two octets that begin at an index.

@@ -1,10 +1,11 @@
 // The table of a kind: a line for each row of its layout, in the order of the wire.
 #![tactic(auto, using(text::proofs::Writing::writes))]
 
-ghost use Rattle.std.specs.Prelude.{◌≡◌};
+ghost use Rattle.std.specs.Prelude.{◌≡◌, ◌≤◌, length};
+ghost use Rattle.record.specs.Groups.{flags_octets};
 ghost use Rattle.text.specs.Sheet.{Put};
 ghost use Rattle.text.specs.Text.{ascii};
-ghost use Rattle.reference.specs.Tables.{row_names, row_place, row_line, table, columns, kind_word, title, whole_length, sizes, page};
+ghost use Rattle.reference.specs.Tables.{row_names, row_place, row_line, row_lines, table, columns, kind_word, title, whole_length, sizes, page};
 
 use crate::flags::put_flags;
 use crate::words::{group_name, present, put_unit_cell, put_width};
@@ -65,15 +66,24 @@ fn put_row(sheet: &mut Sheet, kind: u8, offset: u32, row: Row)
     put_place(sheet, kind, offset, row);
 }
 
-// The lines of a kind's rows, in the order of the wire, each with the octet at which its field begins when all groups are present.
-pub fn put_table(sheet: &mut Sheet, kind: u8)
-    ensures { Put sheet.old (table kind) sheet.new }
+// The lines of rows, each with the octet at which its field begins when they follow one another after the flags.
+fn put_rows(sheet: &mut Sheet, kind: u8, rows: &[Row])
+    requires { length rows.now ≤ 20 }
+    ensures { Put sheet.old (row_lines kind (flags_octets kind) rows.now) sheet.new }
 {
     let mut offset = flags_length(kind) as u32;
-    for row in rows(kind) {
+    for row in rows {
         put_row(sheet, kind, offset, *row);
         offset += width_length(row.2) as u32;
     }
+}
+
+// The lines of a kind's rows, in the order of the wire: the octets are those when all groups are present.
+#[tactic(auto, using(record::proofs::Tables::rows_most), unfolding(crate::specs::Tables::table))]
+pub fn put_table(sheet: &mut Sheet, kind: u8)
+    ensures { Put sheet.old (table kind) sheet.new }
+{
+    put_rows(sheet, kind, rows(kind));
 }
 
 #[tactic(auto, using(text::proofs::Writing::writes), unfolding(crate::specs::Tables::kind_word))]

@@ -10,6 +10,8 @@ mod script;
 mod splits;
 
 use crate::script::Replay;
+use arrayvec::ArrayVec;
+use output::GoesOn;
 use std::io;
 use std::io::Read;
 
@@ -19,14 +21,15 @@ const BLOCK: usize = 65536;
 // A proved loop has to end, and an input might never do so: so the iterations count up to a number that no run uses up.
 fn main(rt: HostRuntime) -> io::Result<()> {
     let mut source = rt.stdin();
-    let mut replay = Replay::new(rt);
+    let mut replay = Replay::new(GoesOn(rt));
+    let mut line = ArrayVec::new();
     let mut block = [0u8; BLOCK];
     for _ in 0..u64::MAX {
         let count = source.read(&mut block)?;
         if count == 0 {
             break;
         }
-        replay.run_block(&block[..count])?;
+        replay.run_block(&mut line, &block[..count])?;
     }
     Ok(())
 }

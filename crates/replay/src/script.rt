@@ -19,13 +19,12 @@ use service::collector::{Collection, Told, collect, open};
 use service::control::{Console, Reply};
 use std::io;
 
-// What the lines act on, where their answers are printed, and the line that has not ended yet.
+// What the lines act on, and where their answers are printed.
 #[derive(Drop)]
 pub(crate) struct Replay<R: Print> {
     rt: R,
     console: Console,
     collection: Collection,
-    line: ArrayVec<u8, LONGEST>,
 }
 
 impl<R: Print> Replay<R> {
@@ -35,18 +34,22 @@ impl<R: Print> Replay<R> {
             rt,
             console: opened(&[]).console,
             collection: open(1, Told::Open).collection,
-            line: ArrayVec::new(),
         }
     }
 
-    // Runs the lines that end in a block of the input; characters of a line past `LONGEST` are left out.
-    pub(crate) fn run_block(&mut self, block: &[u8]) -> io::Result<()> {
+    // Runs the lines that end in a block of the input; characters of a line past `LONGEST` are left out. The line that has not ended yet is lent, so that
+    // it stays where it is while a call of it changes the rest.
+    pub(crate) fn run_block(
+        &mut self,
+        line: &mut ArrayVec<u8, LONGEST>,
+        block: &[u8],
+    ) -> io::Result<()> {
         for x in block {
             if *x == b'\n' {
-                let line = self.line.take();
                 self.run_line(line.as_slice())?;
+                line.clear();
             } else {
-                let _ = self.line.try_push(*x);
+                let _ = line.try_push(*x);
             }
         }
         Ok(())

@@ -13,6 +13,7 @@ mod stair_climber;
 mod step_climber;
 mod treadmill;
 
+use output::GoesOn;
 use record::record::Record;
 use std::io;
 
@@ -27,6 +28,7 @@ const RECORDS: [(&str, Record); 6] = [
 ];
 
 fn main(rt: HostRuntime) -> io::Result<()> {
+    let rt = GoesOn(rt);
     for (name, record) in RECORDS {
         println!(rt; "== {name}")?;
         round::split_and_collect(&rt, record)?;

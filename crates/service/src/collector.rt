@@ -82,9 +82,13 @@ pub fn collect(collection: Collection, notification: &[u8]) -> Step
     ensures answer_value { meant result.answer ≡ (Collector.collect collection notification.now).said }
     ensures next_value { result.next ≡ (Collector.collect collection notification.now).next }
 {
-    let mut next = collection;
-    let answer = next.take(notification);
-    Step { answer, next }
+    // the step is changed in place: a collection beside it would be copied twice
+    let mut step = Step {
+        answer: Collected::Waiting { dropped: false },
+        next: collection,
+    };
+    step.answer = step.next.take(notification);
+    step
 }
 
 // The lowest group of a set, as a set.
@@ -159,7 +163,8 @@ impl Collection {
     fn clear(&mut self)
         ensures { self.new ≡ empty self.old.kind self.old.told }
     {
-        *self = Collection::empty(self.kind, self.told);
+        self.held = 0;
+        self.numbers = [0; 31];
     }
 
     // A refusal, which says whether anything was held before it: "10 to 22 leave the state unchanged", and after any other nothing is held.

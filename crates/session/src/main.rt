@@ -6,7 +6,7 @@
 mod show;
 
 use crate::show::Session;
-use output::Octets;
+use output::{GoesOn, Octets};
 use record::feature::Feature;
 use service::control::Console;
 use service::control::ranges::{HeartRateRange, Ranges, SignedRange, SpeedRange};
@@ -143,6 +143,7 @@ fn hand_over(session: &mut Session<impl Print>) -> io::Result<()> {
 }
 
 fn main(rt: HostRuntime) -> io::Result<()> {
+    let rt = GoesOn(rt);
     let octets = FEATURE.to_octets();
     println!(rt; "Feature value:{}", Octets(&octets))?;
     let reply = Console::open(&octets, RANGES, SPEEDS);

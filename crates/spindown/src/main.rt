@@ -8,7 +8,7 @@ mod show;
 
 use crate::runs::{coast, fail, finish_at_once, ignore, leave, reset, take_control};
 use crate::show::Session;
-use output::Octets;
+use output::{GoesOn, Octets};
 use record::feature::Feature;
 use service::control::Console;
 use service::control::ranges::{HeartRateRange, Ranges, SignedRange, SpeedRange};
@@ -62,6 +62,7 @@ fn calibrate(session: &mut Session<impl Print>) -> io::Result<()> {
 }
 
 fn main(rt: HostRuntime) -> io::Result<()> {
+    let rt = GoesOn(rt);
     let octets = FEATURE.to_octets();
     println!(rt; "Feature value:{}", Octets(&octets))?;
     let reply = Console::open(&octets, RANGES, SPEEDS);

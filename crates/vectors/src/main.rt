@@ -11,9 +11,11 @@ mod runs;
 mod samples;
 mod steps;
 
+use output::GoesOn;
 use std::io;
 
 fn main(rt: HostRuntime) -> io::Result<()> {
+    let rt = GoesOn(rt);
     runs::run_all(&rt)?;
     refusals::run_all(&rt)?;
     plain::run_all(&rt)?;

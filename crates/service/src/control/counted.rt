@@ -30,9 +30,13 @@ impl Counted {
         requires { length p.now ≤ 10 }
         ensures { result ≡ boxed (first ∷ p.now) }
     {
-        let mut octets = [first; 11];
+        let mut octets = [0; 11];
+        octets[0] = first;
         octets[1..=p.len()].copy_from_slice(p);
-        Counted::of(&octets[..=p.len()])
+        Counted {
+            count: 1 + p.len() as u8,
+            octets,
+        }
     }
 
     // The octets that count: all of them, if the count is made by hand and above 11.

@@ -1,6 +1,7 @@
 // "Ranges (least, greatest, both allowed) exist for speed u16, inclination s16, resistance s16, power s16, heart rate u8." W-206: "Each range gets its
 // increment, u16 (for heart rate u8)."
-ghost use Rattle.std.specs.Prelude.{◌≡◌, ℤ, pos, nat_abs};
+ghost use Rattle.std.specs.Prelude.{◌≡◌, ℤ, true, pos, nat_abs};
+ghost use Rattle.std.specs.Int.Signed.{le_z};
 ghost use Rattle.service.specs.Control.Ranges.{bounds, multiple, in_range, is_range, are_ranges, allowed};
 ghost use Rattle.service.specs.Control.Ranges as RangesSpecs;
 
@@ -37,6 +38,11 @@ pub(crate) trait Bounded: Copy {
 
     fn number(self) -> i32
         ensures { result ≡ value self };
+
+    // How far it is above a number that is no larger: up to 65,535, which no i16 holds.
+    fn above(self, least: Self) -> u16
+        requires { le_z (value least) (value self) ≡ true }
+        ensures { result ≡ RangesSpecs.distance (value least) (value self) };
 }
 
 impl Bounded for u8 {
@@ -44,6 +50,10 @@ impl Bounded for u8 {
 
     fn number(self) -> i32 {
         self as i32
+    }
+
+    fn above(self, least: u8) -> u16 {
+        self as u16 - least as u16
     }
 }
 
@@ -53,6 +63,10 @@ impl Bounded for u16 {
     fn number(self) -> i32 {
         self as i32
     }
+
+    fn above(self, least: u16) -> u16 {
+        self - least
+    }
 }
 
 impl Bounded for i16 {
@@ -60,6 +74,10 @@ impl Bounded for i16 {
 
     fn number(self) -> i32 {
         self as i32
+    }
+
+    fn above(self, least: i16) -> u16 {
+        (self as i32 - least as i32) as u16
     }
 }
 
@@ -92,10 +110,9 @@ impl<T: Bounded, S: Bounded> Range<T, S> {
     pub(crate) fn admits(self, x: T) -> bool
         ensures { result ≡ RangesSpecs.admits (bounds (T.value self.least) (T.value self.greatest) (nat_abs (S.value self.increment))) (T.value x) }
     {
-        let least = self.least.number();
-        let x = x.number();
-        in_range(least, self.greatest.number(), x)
-            && is_multiple(self.increment.number().unsigned_abs(), x.abs_diff(least))
+        let step = self.increment.number().unsigned_abs();
+        in_range(self.least.number(), self.greatest.number(), x.number())
+            && is_multiple(step, x.above(self.least) as u32)
     }
 }
 
