@@ -4,7 +4,7 @@
 pub mod answer;
 pub mod state;
 
-ghost use Rattle.std.specs.Prelude.{◌≡◌, take};
+ghost use Rattle.std.specs.Prelude.{◌≡◌, IsOk, take};
 
 use std::fmt::{Display, Write};
 use std::{fmt, io};
@@ -15,17 +15,23 @@ use std::{fmt, io};
 pub struct GoesOn<R: Print>(pub R);
 
 impl<R: Print> Print for GoesOn<R> {
-    fn print<D: Display + Drop>(&self, value: D) -> io::Result<()> {
+    fn print<D: Display + Drop>(&self, value: D) -> io::Result<()>
+        ensures { IsOk result }
+    {
         let _ = self.0.print(value);
         Ok(())
     }
 
-    fn println<D: Display + Drop>(&self, value: D) -> io::Result<()> {
+    fn println<D: Display + Drop>(&self, value: D) -> io::Result<()>
+        ensures { IsOk result }
+    {
         let _ = self.0.println(value);
         Ok(())
     }
 
-    fn write_all(&self, bytes: &[u8]) -> io::Result<()> {
+    fn write_all(&self, bytes: &[u8]) -> io::Result<()>
+        ensures { IsOk result }
+    {
         let _ = self.0.write_all(bytes);
         Ok(())
     }
